@@ -1,0 +1,23 @@
+-- Document 01, "What a call can hand back": the number of each refusal. Definitions only.
+use Prim.Native.Nat.{ℕ}
+use Rattle.limits.specs.declared.Refusal.{Refusal}
+use Rattle.limits.specs.declared.Refusal.the-variants.{HueCount, Gap, Chroma, RingLength, Spacing, TableLength, Entry, WorkBuffer, Directions, RowLength, LevelIndex, HueIndex, ColorCount, Finished, Broken, Operand, Line}
+
+abbrev pub number : Refusal → ℕ
+number HueCount = 1
+number Gap = 2
+number Chroma = 3
+number RingLength = 4
+number Spacing = 5
+number TableLength = 6
+number Entry = 7
+number WorkBuffer = 8
+number Directions = 9
+number RowLength = 10
+number LevelIndex = 11
+number HueIndex = 12
+number ColorCount = 13
+number Finished = 14
+number Broken = 15
+number Operand = 16
+number Line = 17

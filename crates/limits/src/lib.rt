@@ -1,0 +1,200 @@
+// Document 01, "What a call can hand back": the refusals with their numbers, and a check for each kind
+// of value that a caller lends.
+ghost use mathlib.Core.Path.{_≡_};
+ghost use mathlib.Core.Bool.{not};
+ghost use Rattle.limits.specs.Refusals.{number};
+ghost use Rattle.limits.specs.Taken.{outside, signClear, upTo, hueCountTaken, gapTaken, chromaTaken, entryTaken, directionTaken, rootOperandTaken, hueOperandTaken, every, directionsTaken};
+
+// Why a call was refused. The comment is document 01's number.
+pub enum Refusal {
+    // 1: hue count k not 1 to 16
+    HueCount,
+    // 2: gap NaN, sign bit set, or above 84
+    Gap,
+    // 3: chroma NaN, sign bit set, or above 200
+    Chroma,
+    // 4: ring length not 1 to 720, or two rows of unequal length
+    RingLength,
+    // 5: spacing 0 or above the ring length
+    Spacing,
+    // 6: table length not levels × 720
+    TableLength,
+    // 7: an entry read that is NaN, has its sign bit set, or exceeds 200
+    Entry,
+    // 8: work buffer too short
+    WorkBuffer,
+    // 9: cosine or sine slice not 720 long, or a component NaN or outside -1 to 1
+    Directions,
+    // 10: row to fill not 720 long
+    RowLength,
+    // 11: level index above 168
+    LevelIndex,
+    // 12: hue index above 719
+    HueIndex,
+    // 13: colour count not 2k
+    ColorCount,
+    // 14: job finished
+    Finished,
+    // 15: job record broken
+    Broken,
+    // 16: root or hue operand out of range
+    Operand,
+    // 17: text line malformed
+    Line,
+}
+
+impl Refusal {
+    // Document 01's number of a refusal.
+    pub fn number(self) -> u8
+        ensures { λ r. ⌜ r ≡ number self ⌝ }
+    {
+        match self {
+            Refusal::HueCount => 1,
+            Refusal::Gap => 2,
+            Refusal::Chroma => 3,
+            Refusal::RingLength => 4,
+            Refusal::Spacing => 5,
+            Refusal::TableLength => 6,
+            Refusal::Entry => 7,
+            Refusal::WorkBuffer => 8,
+            Refusal::Directions => 9,
+            Refusal::RowLength => 10,
+            Refusal::LevelIndex => 11,
+            Refusal::HueIndex => 12,
+            Refusal::ColorCount => 13,
+            Refusal::Finished => 14,
+            Refusal::Broken => 15,
+            Refusal::Operand => 16,
+            Refusal::Line => 17,
+        }
+    }
+}
+
+// Whether x is a number from lo to hi.
+fn within(x: f32, lo: f32, hi: f32) -> bool
+    ensures { λ r. ⌜ r ≡ not (outside lo hi x) ⌝ }
+{
+    if x != x {
+        return false;
+    }
+    if x < lo {
+        return false;
+    }
+    !(hi < x)
+}
+
+// Whether the sign bit of x is clear. A NaN, which has no sign here, does not pass.
+fn sign_clear(x: f32) -> bool
+    ensures { λ r. ⌜ r ≡ signClear x ⌝ }
+{
+    if x != x {
+        return false;
+    }
+    f32::to_bits(x) < 0x8000_0000
+}
+
+// Whether x is a number from plus 0 to `most`.
+fn up_to(x: f32, most: f32) -> bool
+    ensures { λ r. ⌜ r ≡ upTo most x ⌝ }
+{
+    if sign_clear(x) {
+        return !(most < x);
+    }
+    false
+}
+
+// Whether k is a hue count.
+pub fn takes_hue_count(k: usize) -> bool
+    ensures { λ r. ⌜ r ≡ hueCountTaken k ⌝ }
+{
+    1 <= k && k <= 16
+}
+
+// Whether x is a gap.
+pub fn takes_gap(x: f32) -> bool
+    ensures { λ r. ⌜ r ≡ gapTaken x ⌝ }
+{
+    up_to(x, 84.0)
+}
+
+// Whether x is a chroma.
+pub fn takes_chroma(x: f32) -> bool
+    ensures { λ r. ⌜ r ≡ chromaTaken x ⌝ }
+{
+    up_to(x, 200.0)
+}
+
+// Whether x is an entry of a table.
+pub fn takes_entry(x: f32) -> bool
+    ensures { λ r. ⌜ r ≡ entryTaken x ⌝ }
+{
+    up_to(x, 200.0)
+}
+
+// Whether x is a component of a direction.
+pub fn takes_direction(x: f32) -> bool
+    ensures { λ r. ⌜ r ≡ directionTaken x ⌝ }
+{
+    within(x, -1.0, 1.0)
+}
+
+// Whether a root is taken of x.
+pub fn takes_root_operand(x: f32) -> bool
+    ensures { λ r. ⌜ r ≡ rootOperandTaken x ⌝ }
+{
+    if sign_clear(x) {
+        return x < f32::from_bits(0x7f80_0000);
+    }
+    false
+}
+
+// Whether x is taken as a or b of a hue.
+pub fn takes_hue_operand(x: f32) -> bool
+    ensures { λ r. ⌜ r ≡ hueOperandTaken x ⌝ }
+{
+    within(x, -1000.0, 1000.0)
+}
+
+// Whether every entry of a row or table is taken.
+pub fn takes_entries(entries: &[f32]) -> bool
+    ensures { λ r. ⌜ r ≡ every entryTaken (now (entries .entry)) ⌝ }
+{
+    let mut i = 0;
+    while i < entries.len() {
+        if !takes_entry(entries[i]) {
+            return false;
+        }
+        i += 1;
+    }
+    true
+}
+
+// Whether every component of one slice of directions is taken.
+fn takes_components(components: &[f32]) -> bool
+    ensures { λ r. ⌜ r ≡ every directionTaken (now (components .entry)) ⌝ }
+{
+    let mut j = 0;
+    while j < components.len() {
+        if !takes_direction(components[j]) {
+            return false;
+        }
+        j += 1;
+    }
+    true
+}
+
+// Whether two slices are taken as the cosines and the sines of the 720 directions.
+pub fn takes_directions(cos: &[f32], sin: &[f32]) -> bool
+    ensures { λ r. ⌜ r ≡ directionsTaken (now (cos .entry)) (now (sin .entry)) ⌝ }
+{
+    if cos.len() != 720 {
+        return false;
+    }
+    if sin.len() != 720 {
+        return false;
+    }
+    if takes_components(cos) {
+        return takes_components(sin);
+    }
+    false
+}
