@@ -1,0 +1,4 @@
+pub mod Halve
+pub mod Least
+pub mod Patterns
+pub mod Nearest
