@@ -1,0 +1,5 @@
+pub mod Powers
+pub mod Digits
+pub mod Scale
+pub mod NoTie
+pub mod Assemble
