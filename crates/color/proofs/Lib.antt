@@ -1,0 +1,4 @@
+pub mod Hex
+pub mod Inside
+pub mod Operands
+pub mod Turns

@@ -1,0 +1,117 @@
+-- Document 01, "Colour": the conversions over every f32, NaN, infinities and minus zero included. Multiplications and additions run in the
+-- order written in the Rust, each rounded once. `lt` and `le` are false where a NaN stands. Definitions only.
+use Prim.Native.Nat.{ℕ}
+use mathlib.Core.Bool.{Bool, _&&_, cond}
+use mathlib.Core.List.{List, [], _∷_}
+use lib.Ieee.{Float, nan, binary32, add, sub, mul, div, lt, le}
+use lib.ListN.{getD}
+use Rattle.limits.specs.Taken.{whole, rootOperandTaken}
+use Rattle.roots.specs.Roots.{rootOf}
+use Rattle.transfer.specs.Transfer.{decodeOf, encodeOf}
+use Rattle.color.specs.declared.Srgb8.{Srgb8}
+use Rattle.color.specs.declared.Linear.{Linear}
+use Rattle.color.specs.declared.Lab.{Lab}
+use Rattle.color.specs.Constants.{toXyz, fromXyz, row, white, gamutLow, gamutHigh, deltaCubed, slope, offset, delta}
+
+-- ---- one channel
+
+-- brought to 0 to 1: minus zero and NaN stay, as with Rust's `clamp`
+unfoldable pub clampTo : Float → Float
+clampTo v = cond (lt v (whole 0)) (whole 0) (cond (lt (whole 1) v) (whole 1) v)
+
+-- in gamut: from -1e-4 to 1 + 1e-4 inclusive; NaN fails
+unfoldable pub gamutChannel : Float → Bool
+gamutChannel v = le gamutLow v && le v gamutHigh
+
+unfoldable pub clampedOf : Linear → Linear
+clampedOf c = record { r = clampTo (c .r); g = clampTo (c .g); b = clampTo (c .b) }
+
+unfoldable pub inGamut : Linear → Bool
+inGamut c = gamutChannel (c .r) && (gamutChannel (c .g) && gamutChannel (c .b))
+
+-- ---- roots: the conversions refuse nothing, the root of plus infinity is plus infinity and that of NaN is NaN. No negative operand comes here.
+unfoldable pub rootInside : ℕ → Float → Float
+rootInside n x = cond (rootOperandTaken x) (rootOf n x) x
+
+-- ---- sRGB and linear light
+unfoldable pub srgb8ToLinear : Srgb8 → Linear
+srgb8ToLinear c = record { r = decodeOf (c .r); g = decodeOf (c .g); b = decodeOf (c .b) }
+
+unfoldable pub linearToSrgb8 : Linear → Srgb8
+linearToSrgb8 c = record { r = encodeOf (c .r); g = encodeOf (c .g); b = encodeOf (c .b) }
+
+-- ---- linear light and XYZ
+
+-- the entry i of three; X, Y and Z are the entries 0, 1 and 2
+abbrev pub at : List Float → ℕ → Float
+at xyz i = getD xyz i nan
+
+-- three numbers weighted by a row of a matrix
+unfoldable pub weigh : List Float → Float → Float → Float → Float
+weigh row x y z = add binary32 (add binary32 (mul binary32 (at row 0) x) (mul binary32 (at row 1) y)) (mul binary32 (at row 2) z)
+
+unfoldable pub linearToXyz : Linear → List Float
+linearToXyz c = weigh (row toXyz 0) (c .r) (c .g) (c .b) ∷ weigh (row toXyz 1) (c .r) (c .g) (c .b) ∷ weigh (row toXyz 2) (c .r) (c .g) (c .b) ∷ []
+
+unfoldable pub xyzToLinear : List Float → Linear
+xyzToLinear xyz = record {
+  r = weigh (row fromXyz 0) (at xyz 0) (at xyz 1) (at xyz 2);
+  g = weigh (row fromXyz 1) (at xyz 0) (at xyz 1) (at xyz 2);
+  b = weigh (row fromXyz 2) (at xyz 0) (at xyz 1) (at xyz 2);
+}
+
+-- ---- XYZ and CIELAB
+
+-- CIE 15's f: the cube root above (6/29) ^ 3, else t × 841/108 + 4/29
+unfoldable pub labF : Float → Float
+labF t = cond (lt deltaCubed t) (rootInside 3 t) (add binary32 (mul binary32 t slope) offset)
+
+-- the other way: the cube above 6/29, else ((3 × δ) × δ) × (t - 4/29)
+unfoldable pub labFInv : Float → Float
+labFInv t =
+    cond (lt delta t) (mul binary32 (mul binary32 t t) t)
+    (mul binary32 (mul binary32 (mul binary32 (whole 3) delta) delta) (sub binary32 t offset))
+
+-- f of the entry i over the white point's
+unfoldable pub relative : List Float → ℕ → Float
+relative xyz i = labF (div binary32 (at xyz i) (at white i))
+
+unfoldable pub xyzToLab : List Float → Lab
+xyzToLab xyz = record {
+  l = sub binary32 (mul binary32 (whole 116) (relative xyz 1)) (whole 16);
+  a = mul binary32 (whole 500) (sub binary32 (relative xyz 0) (relative xyz 1));
+  b = mul binary32 (whole 200) (sub binary32 (relative xyz 1) (relative xyz 2));
+}
+
+-- (l + 16) / 116
+unfoldable pub lightness : Lab → Float
+lightness lab = div binary32 (add binary32 (lab .l) (whole 16)) (whole 116)
+
+unfoldable pub labToXyz : Lab → List Float
+labToXyz lab =
+    mul binary32 (labFInv (add binary32 (lightness lab) (div binary32 (lab .a) (whole 500)))) (at white 0)
+    ∷ mul binary32 (labFInv (lightness lab)) (at white 1)
+    ∷ mul binary32 (labFInv (sub binary32 (lightness lab) (div binary32 (lab .b) (whole 200)))) (at white 2)
+    ∷ []
+
+-- ---- composed
+unfoldable pub linearToLab : Linear → Lab
+linearToLab c = xyzToLab (linearToXyz c)
+
+unfoldable pub labToLinear : Lab → Linear
+labToLinear lab = xyzToLinear (labToXyz lab)
+
+unfoldable pub srgb8ToLab : Srgb8 → Lab
+srgb8ToLab c = linearToLab (srgb8ToLinear c)
+
+-- chroma: the square root of a × a + b × b
+unfoldable pub chromaOf : Lab → Float
+chromaOf lab = rootInside 2 (add binary32 (mul binary32 (lab .a) (lab .a)) (mul binary32 (lab .b) (lab .b)))
+
+-- lightness l and chroma c in the direction (cos, sin)
+unfoldable pub lchToLab : Float → Float → Float → Float → Lab
+lchToLab l c cos sin = record { l = l; a = mul binary32 c cos; b = mul binary32 c sin }
+
+-- whether the chroma c is in gamut there
+unfoldable pub lchInGamut : Float → Float → Float → Float → Bool
+lchInGamut l cos sin c = inGamut (labToLinear (lchToLab l c cos sin))

@@ -1,0 +1,53 @@
+-- Document 01's stand-in for `atan2`: x(j) = cos(j) × b - sin(j) × a; the first j with x(j) ≥ 0 and x(j+1) < 0, 720 counting as 0;
+-- with y = -x(j+1) the hue is 0.5 × (j + x / (x + y)); no such j gives 0. Definitions only.
+use Prim.Native.Nat.{ℕ, zero, suc, _+_, _%_}
+use mathlib.Core.Bool.{Bool, false, _&&_, cond}
+use mathlib.Core.List.{List}
+use lib.Ieee.{Float, nan, binary32, round, add, sub, mul, div, neg, lt, le}
+use lib.ListN.{getD}
+use Rattle.limits.specs.Answers.{Said, value, refused}
+use Rattle.limits.specs.Refusals.{number}
+use Rattle.limits.specs.Taken.{whole, directionsTaken, hueOperandTaken}
+use Rattle.color.specs.declared.Hue.{Hue}
+use Rattle.color.specs.declared.Hue.the-variants.{Degrees, Refused}
+
+-- x(j)
+unfoldable pub sideAt : List Float → List Float → Float → Float → ℕ → Float
+sideAt cs ss a b j = sub binary32 (mul binary32 (getD cs j nan) b) (mul binary32 (getD ss j nan) a)
+
+-- the direction after j, 720 counting as 0
+abbrev pub afterOf : ℕ → ℕ
+afterOf j = (j + 1) % 720
+
+-- x(j) ≥ 0 and x(j+1) < 0
+unfoldable pub changes : Float → Float → Bool
+changes x next = le (whole 0) x && lt next (whole 0)
+
+unfoldable pub crosses : List Float → List Float → Float → Float → ℕ → Bool
+crosses cs ss a b j = changes (sideAt cs ss a b j) (sideAt cs ss a b (afterOf j))
+
+-- 0.5 × (j + x / (x + y))
+unfoldable pub hueAt : List Float → List Float → Float → Float → ℕ → Float
+hueAt cs ss a b j =
+    let x = sideAt cs ss a b j in
+    let y = neg (sideAt cs ss a b (afterOf j)) in
+    mul binary32 (round binary32 false 1 2) (add binary32 (whole j) (div binary32 x (add binary32 x y)))
+
+-- the hue at the first such j of the n from j on, and 0 if there is none
+unfoldable pub hueFrom : List Float → List Float → Float → Float → ℕ → ℕ → Float
+hueFrom cs ss a b zero j = whole 0
+hueFrom cs ss a b (suc n) j =
+    let later = hueFrom cs ss a b n (suc j) in
+    cond (crosses cs ss a b j) (hueAt cs ss a b j) later
+
+unfoldable pub hueOf : List Float → List Float → Float → Float → Float
+hueOf cs ss a b = hueFrom cs ss a b 720 0
+
+-- what an answer hands back
+abbrev pub hueSaid : Hue → Said Float
+hueSaid (Degrees h) = value h
+hueSaid (Refused w) = refused (number w)
+
+-- refusals 9, then 16
+unfoldable pub hueSays : List Float → List Float → Float → Float → Said Float
+hueSays cs ss a b = cond (directionsTaken cs ss) (cond (hueOperandTaken a && hueOperandTaken b) (value (hueOf cs ss a b)) (refused 16)) (refused 9)

@@ -1,0 +1,5 @@
+pub mod Constants
+pub mod Parts
+pub mod Color
+pub mod Hue
+pub mod Clip
