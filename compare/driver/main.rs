@@ -1,0 +1,56 @@
+//! Writes lists of colour cases with the results of the published colour file, the
+//! stand-ins of document 01 put in. See compare/README.md.
+
+mod big;
+mod cases;
+mod check;
+#[allow(dead_code)]
+mod color; // the published file, patched by compare/build
+mod lists;
+mod palette; // the white point, taken from the published file by compare/build
+#[allow(dead_code)]
+mod published; // the published file as it is, for `check`
+mod random;
+mod standins;
+
+use std::io::{self, BufWriter, Write};
+use std::process::ExitCode;
+
+/// Runs the command named on the command line.
+fn main() -> ExitCode {
+    let words: Vec<String> = std::env::args().skip(1).collect();
+    let words: Vec<&str> = words.iter().map(String::as_str).collect();
+    let mut out = BufWriter::new(io::stdout().lock());
+    let done = match words[..] {
+        ["list"] => lists::fixed(&mut out),
+        ["many", seed, count] => match (seed.parse(), count.parse()) {
+            (Ok(seed), Ok(count)) => lists::many(&mut out, seed, count),
+            _ => return usage(),
+        },
+        ["tables"] => tables(&mut out),
+        ["check"] => check::all(&mut out),
+        _ => return usage(),
+    };
+    match done.and_then(|()| out.flush()) {
+        Ok(()) => ExitCode::SUCCESS,
+        Err(problem) => {
+            eprintln!("driver: {problem}");
+            ExitCode::FAILURE
+        }
+    }
+}
+
+/// Says how the driver is called.
+fn usage() -> ExitCode {
+    eprintln!("usage: driver list | many SEED COUNT | tables | check");
+    ExitCode::from(2)
+}
+
+/// Writes the bit patterns of the 256 decode constants, then of the 255 thresholds.
+fn tables(out: &mut dyn Write) -> io::Result<()> {
+    let tables = standins::tables();
+    for constant in tables.decode.iter().chain(&tables.thresholds) {
+        writeln!(out, "{}", constant.to_bits())?;
+    }
+    Ok(())
+}
