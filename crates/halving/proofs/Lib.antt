@@ -2,3 +2,4 @@ pub mod Halve
 pub mod Least
 pub mod Patterns
 pub mod Nearest
+pub mod Range

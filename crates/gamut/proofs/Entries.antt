@@ -1,0 +1,48 @@
+-- Every entry that is filled is a number from 0 to 200 with its sign bit clear, so a table of filled rows is never refused by number 7. Assumes nothing.
+use mathlib.Core.Path.{_≡_, refl, sym, ap, _∙_}
+use mathlib.Core.Bool.{Bool, true, false, _&&_, cond}
+use mathlib.Core.List.{List, [], _∷_, _++_}
+use Prim.Native.Nat.{ℕ, zero, suc, _≤_}
+use native.Mathlib.Omega.{arith}
+use lib.Ieee.{Float, nan, ofInt}
+use lib.ListN.{getD}
+use Rattle.limits.specs.Taken.{upTo, whole, entryTaken, every}
+use Rattle.halving.specs.Midpoint.{halve}
+use Rattle.halving.proofs.Range.{UpTo, halve-up-to, up-to-taken}
+use Rattle.color.specs.Color.{lchInGamut}
+use Rattle.gamut.specs.Gamut.{maxChroma, entriesFrom, rowOf}
+
+-- whatever the lightness and the direction are
+chroma-up-to : (l cos sin : Float) → UpTo 200 (maxChroma l cos sin)
+unfolding maxChroma ofInt
+chroma-up-to l cos sin = go (lchInGamut l cos sin (whole 200)) (halve (lchInGamut l cos sin) 40 (whole 0) (whole 200)) (halve-up-to 200 (lchInGamut l cos sin) 40 (whole 0) (whole 200) (omega arith) (omega arith) (omega arith))
+  where
+    go : (t : Bool) (found : Float) → UpTo 200 found → UpTo 200 (cond t (whole 200) found)
+    go true found h = omega arith
+    go false found h = h
+
+pub chroma-taken : (l cos sin : Float) → entryTaken (maxChroma l cos sin) ≡ true
+unfolding entryTaken
+chroma-taken l cos sin = up-to-taken 200 (maxChroma l cos sin) (omega arith) (chroma-up-to l cos sin)
+
+entries-taken : (l : Float) (cs ss : List Float) (n j : ℕ) → every entryTaken (entriesFrom l cs ss n j) ≡ true
+unfolding every entriesFrom
+entries-taken l cs ss zero j = refl
+entries-taken l cs ss (suc n) j = rw (chroma-taken l (getD cs j nan) (getD ss j nan)) (entries-taken l cs ss n (suc j))
+
+-- a filled row is taken by number 7
+pub row-taken : (l : Float) (cs ss : List Float) → every entryTaken (rowOf l cs ss) ≡ true
+unfolding rowOf
+row-taken l cs ss = entries-taken l cs ss 720 0
+
+-- and so is a table of rows that are each taken, one after the other
+pub rows-taken : (row table : List Float) → every entryTaken row ≡ true → every entryTaken table ≡ true → every entryTaken (row ++ table) ≡ true
+unfolding every
+rows-taken [] table r t = t
+rows-taken (x ∷ row) table r t =
+    let h = both (entryTaken x) (every entryTaken row) r in
+    rw (h .0) (rows-taken row table (h .1) t)
+  where
+    both : (a b : Bool) → (a && b) ≡ true → (a ≡ true) × (b ≡ true)
+    both true b h = (refl, h)
+    both false b h = absurd (let z : _≡_ {A = ℕ} 0 1 = cc in omega arith)
