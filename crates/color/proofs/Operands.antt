@@ -2,12 +2,11 @@
 use mathlib.Core.Path.{_≡_, refl, sym, ap, _∙_}
 use mathlib.Core.Bool.{Bool, true, false, not, Bool·beq, cond}
 use Prim.Native.Nat.{ℕ, _+_, _*_}
-use native.Mathlib.Omega.{arith}
 use lib.Dec.{eqb}
 use lib.IntN.{ℤ}
 use lib.Ieee.{Float, nan, inf, fin, binary32, up, down, unlike, round, sum, add, mul, lt}
 use Rattle.limits.specs.Taken.{signBit}
-use Rattle.limits.proofs.Floats.{round-sign}
+use Rattle.limits.proofs.Floats.{never, round-sign}
 use Rattle.color.specs.Constants.{deltaCubed}
 
 -- ---- a square
@@ -24,14 +23,14 @@ sum-clear : (x y : Float) → signBit x ≡ false → signBit y ≡ false → si
 unfolding add sum signBit
 sum-clear nan y p q = refl
 sum-clear (inf s) nan p q = refl
-sum-clear (inf true) (inf t) p q = absurd (let z : _≡_ {A = ℕ} 0 1 = cc in omega arith)
+sum-clear (inf true) (inf t) p q = never (sym p)
 sum-clear (inf false) (inf true) p q = refl
 sum-clear (inf false) (inf false) p q = refl
 sum-clear (inf s) (fin t n d) p q = p
 sum-clear (fin s m e) nan p q = refl
 sum-clear (fin s m e) (inf t) p q = q
-sum-clear (fin true m e) (fin t n d) p q = absurd (let z : _≡_ {A = ℕ} 0 1 = cc in omega arith)
-sum-clear (fin false m e) (fin true n d) p q = absurd (let z : _≡_ {A = ℕ} 0 1 = cc in omega arith)
+sum-clear (fin true m e) (fin t n d) p q = never (sym p)
+sum-clear (fin false m e) (fin true n d) p q = never (sym q)
 sum-clear (fin false m e) (fin false n d) p q = round-sign false (m * up e * down d + n * up d * down e) (down e * down d)
 
 pub chroma-operand : (a b : Float) → signBit (add binary32 (mul binary32 a a) (mul binary32 b b)) ≡ false
@@ -40,7 +39,7 @@ chroma-operand a b = sum-clear (mul binary32 a a) (mul binary32 b b) (square-cle
 pub cube-root-operand : (t : Float) → lt deltaCubed t ≡ true → signBit t ≡ false
 unfolding deltaCubed round lt signBit
 cube-root-operand nan h = refl
-cube-root-operand (inf true) h = absurd (let z : _≡_ {A = ℕ} 0 1 = cc in omega arith)
+cube-root-operand (inf true) h = never h
 cube-root-operand (inf false) h = refl
-cube-root-operand (fin true m e) h = absurd (let z : _≡_ {A = ℕ} 0 1 = cc in omega arith)
+cube-root-operand (fin true m e) h = never h
 cube-root-operand (fin false m e) h = refl

@@ -5,7 +5,7 @@ use mathlib.Core.List.{List}
 use Prim.Native.Nat.{ℕ, zero, suc, _+_, _-_, _≤_, _<_}
 use native.Mathlib.Omega.{arith}
 use lib.Ieee.{Float}
-use Rattle.limits.specs.Taken.{whole}
+use Rattle.limits.specs.Taken.{f32Of}
 use Rattle.color.specs.Hue.{crosses, hueAt, hueFrom, hueOf}
 
 module _ (cs ss : List Float) (a b : Float) (j : ℕ) (so-far : hueFrom cs ss a b (720 - j) j ≡ hueOf cs ss a b) where
@@ -25,7 +25,7 @@ module _ (cs ss : List Float) (a b : Float) (j : ℕ) (so-far : hueFrom cs ss a 
       let e : hueFrom cs ss a b (suc (720 - (j + 1))) j ≡ hueOf cs ss a b = rw (one-less h) at so-far in
       ap (λ (k : ℕ). hueFrom cs ss a b (720 - (j + 1)) k) n ∙ (rw f at e)
 
-  pub nowhere : 720 ≤ j → whole 0 ≡ hueOf cs ss a b
+  pub nowhere : 720 ≤ j → f32Of 0 ≡ hueOf cs ss a b
   unfolding hueFrom
   nowhere h = let n : 720 - j ≡ 0 = omega arith in rw n at so-far
 

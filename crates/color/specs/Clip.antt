@@ -3,15 +3,16 @@
 use Prim.Native.Nat.{ℕ}
 use mathlib.Core.Bool.{cond}
 use lib.Ieee.{Float}
-use Rattle.limits.specs.Taken.{whole}
+use Rattle.limits.specs.Taken.{f32Of}
 use Rattle.halving.specs.Midpoint.{halve}
 use Rattle.color.specs.declared.Clipped.{Clipped}
 use Rattle.color.specs.Color.{labToLinear, linearToSrgb8, clampedOf, lchToLab, lchInGamut}
 
 -- the chroma after n halvings
 unfoldable pub lowered : ℕ → Float → Float → Float → Float → Float
-lowered n l c cos sin = halve (lchInGamut l cos sin) n (whole 0) c
+lowered n l c cos sin = halve (lchInGamut l cos sin) n (f32Of 0) c
 
+-- the colour, and the chroma it ended at
 unfoldable pub clippedOf : Float → Float → Float → Float → Clipped
 clippedOf l c cos sin =
     let low = lowered 24 l c cos sin in

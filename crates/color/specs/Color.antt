@@ -5,7 +5,9 @@ use mathlib.Core.Bool.{Bool, _&&_, cond}
 use mathlib.Core.List.{List, [], _∷_}
 use lib.Ieee.{Float, nan, binary32, add, sub, mul, div, lt, le}
 use lib.ListN.{getD}
-use Rattle.limits.specs.Taken.{whole, rootOperandTaken}
+use Rattle.limits.specs.Taken.{f32Of, rootOperandTaken}
+use Rattle.roots.specs.declared.Root.{Root}
+use Rattle.roots.specs.declared.Root.the-variants.{Is, Refused}
 use Rattle.roots.specs.Roots.{rootOf}
 use Rattle.transfer.specs.Transfer.{decodeOf, encodeOf}
 use Rattle.color.specs.declared.Srgb8.{Srgb8}
@@ -17,26 +19,38 @@ use Rattle.color.specs.Constants.{toXyz, fromXyz, row, white, gamutLow, 
 
 -- brought to 0 to 1: minus zero and NaN stay, as with Rust's `clamp`
 unfoldable pub clampTo : Float → Float
-clampTo v = cond (lt v (whole 0)) (whole 0) (cond (lt (whole 1) v) (whole 1) v)
+clampTo v = cond (lt v (f32Of 0)) (f32Of 0) (cond (lt (f32Of 1) v) (f32Of 1) v)
 
 -- in gamut: from -1e-4 to 1 + 1e-4 inclusive; NaN fails
 unfoldable pub gamutChannel : Float → Bool
 gamutChannel v = le gamutLow v && le v gamutHigh
 
+-- `Linear::clamped`: each channel brought to 0 to 1
 unfoldable pub clampedOf : Linear → Linear
 clampedOf c = record { r = clampTo (c .r); g = clampTo (c .g); b = clampTo (c .b) }
 
+-- "In gamut: each channel .."; `Linear::in_gamut`
 unfoldable pub inGamut : Linear → Bool
 inGamut c = gamutChannel (c .r) && (gamutChannel (c .g) && gamutChannel (c .b))
 
--- ---- roots: the conversions refuse nothing, the root of plus infinity is plus infinity and that of NaN is NaN. No negative operand comes here.
+-- ---- roots: "The conversions refuse nothing", and no negative operand comes here
+
+-- the answer's root, or the operand where the answer refuses it
+abbrev pub orOperand : Root → Float → Float
+orOperand (Is r) x = r
+orOperand (Refused w) x = x
+
+-- the root of plus infinity is plus infinity, that of NaN is NaN
 unfoldable pub rootInside : ℕ → Float → Float
 rootInside n x = cond (rootOperandTaken x) (rootOf n x) x
 
 -- ---- sRGB and linear light
+
+-- each channel by its decode constant
 unfoldable pub srgb8ToLinear : Srgb8 → Linear
 srgb8ToLinear c = record { r = decodeOf (c .r); g = decodeOf (c .g); b = decodeOf (c .b) }
 
+-- each channel by how many encode constants are at most it
 unfoldable pub linearToSrgb8 : Linear → Srgb8
 linearToSrgb8 c = record { r = encodeOf (c .r); g = encodeOf (c .g); b = encodeOf (c .b) }
 
@@ -50,9 +64,11 @@ at xyz i = getD xyz i nan
 unfoldable pub weigh : List Float → Float → Float → Float → Float
 weigh row x y z = add binary32 (add binary32 (mul binary32 (at row 0) x) (mul binary32 (at row 1) y)) (mul binary32 (at row 2) z)
 
+-- "Matrix rows, XYZ from linear"
 unfoldable pub linearToXyz : Linear → List Float
 linearToXyz c = weigh (row toXyz 0) (c .r) (c .g) (c .b) ∷ weigh (row toXyz 1) (c .r) (c .g) (c .b) ∷ weigh (row toXyz 2) (c .r) (c .g) (c .b) ∷ []
 
+-- "Back"
 unfoldable pub xyzToLinear : List Float → Linear
 xyzToLinear xyz = record {
   r = weigh (row fromXyz 0) (at xyz 0) (at xyz 1) (at xyz 2);
@@ -70,37 +86,42 @@ labF t = cond (lt deltaCubed t) (rootInside 3 t) (add binary32 (mul binary32 t s
 unfoldable pub labFInv : Float → Float
 labFInv t =
     cond (lt delta t) (mul binary32 (mul binary32 t t) t)
-    (mul binary32 (mul binary32 (mul binary32 (whole 3) delta) delta) (sub binary32 t offset))
+    (mul binary32 (mul binary32 (mul binary32 (f32Of 3) delta) delta) (sub binary32 t offset))
 
 -- f of the entry i over the white point's
 unfoldable pub relative : List Float → ℕ → Float
 relative xyz i = labF (div binary32 (at xyz i) (at white i))
 
+-- 116 × f(Y) - 16, 500 × (f(X) - f(Y)) and 200 × (f(Y) - f(Z))
 unfoldable pub xyzToLab : List Float → Lab
 xyzToLab xyz = record {
-  l = sub binary32 (mul binary32 (whole 116) (relative xyz 1)) (whole 16);
-  a = mul binary32 (whole 500) (sub binary32 (relative xyz 0) (relative xyz 1));
-  b = mul binary32 (whole 200) (sub binary32 (relative xyz 1) (relative xyz 2));
+  l = sub binary32 (mul binary32 (f32Of 116) (relative xyz 1)) (f32Of 16);
+  a = mul binary32 (f32Of 500) (sub binary32 (relative xyz 0) (relative xyz 1));
+  b = mul binary32 (f32Of 200) (sub binary32 (relative xyz 1) (relative xyz 2));
 }
 
 -- (l + 16) / 116
 unfoldable pub lightness : Lab → Float
-lightness lab = div binary32 (add binary32 (lab .l) (whole 16)) (whole 116)
+lightness lab = div binary32 (add binary32 (lab .l) (f32Of 16)) (f32Of 116)
 
+-- f the other way at (l + 16) / 116 + a / 500, at (l + 16) / 116 and at (l + 16) / 116 - b / 200, each times the white point
 unfoldable pub labToXyz : Lab → List Float
 labToXyz lab =
-    mul binary32 (labFInv (add binary32 (lightness lab) (div binary32 (lab .a) (whole 500)))) (at white 0)
+    mul binary32 (labFInv (add binary32 (lightness lab) (div binary32 (lab .a) (f32Of 500)))) (at white 0)
     ∷ mul binary32 (labFInv (lightness lab)) (at white 1)
-    ∷ mul binary32 (labFInv (sub binary32 (lightness lab) (div binary32 (lab .b) (whole 200)))) (at white 2)
+    ∷ mul binary32 (labFInv (sub binary32 (lightness lab) (div binary32 (lab .b) (f32Of 200)))) (at white 2)
     ∷ []
 
 -- ---- composed
+-- through XYZ
 unfoldable pub linearToLab : Linear → Lab
 linearToLab c = xyzToLab (linearToXyz c)
 
+-- through XYZ
 unfoldable pub labToLinear : Lab → Linear
 labToLinear lab = xyzToLinear (labToXyz lab)
 
+-- through linear light
 unfoldable pub srgb8ToLab : Srgb8 → Lab
 srgb8ToLab c = linearToLab (srgb8ToLinear c)
 

@@ -4,7 +4,7 @@ use mathlib.Core.Bool.{true, false}
 use mathlib.Core.List.{List, [], _∷_}
 use lib.Ieee.{Float, binary32, round, add}
 use lib.ListN.{getD}
-use Rattle.limits.specs.Taken.{whole}
+use Rattle.limits.specs.Taken.{f32Of}
 
 -- matrix rows, XYZ from linear
 unfoldable pub toXyz : List (List Float)
@@ -28,24 +28,28 @@ row m i = getD m i []
 
 -- the white point
 unfoldable pub white : List Float
-white = round binary32 false 95047 (10 ^ 5) ∷ whole 1 ∷ round binary32 false 108883 (10 ^ 5) ∷ []
+white = round binary32 false 95047 (10 ^ 5) ∷ f32Of 1 ∷ round binary32 false 108883 (10 ^ 5) ∷ []
 
--- in gamut: each channel from -1e-4 to 1 + 1e-4, one f32 sum
+-- in gamut is from -1e-4
 unfoldable pub gamutLow : Float
 gamutLow = round binary32 true 1 (10 ^ 4)
 
+-- to 1 + 1e-4, one f32 sum
 unfoldable pub gamutHigh : Float
-gamutHigh = add binary32 (whole 1) (round binary32 false 1 (10 ^ 4))
+gamutHigh = add binary32 (f32Of 1) (round binary32 false 1 (10 ^ 4))
 
--- CIE 15: (6/29) ^ 3, 841/108, 4/29 and 6/29
+-- CIE 15: (6/29) ^ 3
 unfoldable pub deltaCubed : Float
 deltaCubed = round binary32 false 216 24389
 
+-- 841/108
 unfoldable pub slope : Float
 slope = round binary32 false 841 108
 
+-- 4/29
 unfoldable pub offset : Float
 offset = round binary32 false 4 29
 
+-- 6/29
 unfoldable pub delta : Float
 delta = round binary32 false 6 29

@@ -7,7 +7,7 @@ use lib.Ieee.{Float, nan, binary32, round, add, sub, mul, div, neg, lt, le}
 use lib.ListN.{getD}
 use Rattle.limits.specs.Answers.{Said, value, refused}
 use Rattle.limits.specs.Refusals.{number}
-use Rattle.limits.specs.Taken.{whole, directionsTaken, hueOperandTaken}
+use Rattle.limits.specs.Taken.{f32Of, directionsTaken, hueOperandTaken}
 use Rattle.color.specs.declared.Hue.{Hue}
 use Rattle.color.specs.declared.Hue.the-variants.{Degrees, Refused}
 
@@ -21,8 +21,9 @@ afterOf j = (j + 1) % 720
 
 -- x(j) ≥ 0 and x(j+1) < 0
 unfoldable pub changes : Float → Float → Bool
-changes x next = le (whole 0) x && lt next (whole 0)
+changes x next = le (f32Of 0) x && lt next (f32Of 0)
 
+-- so at direction j
 unfoldable pub crosses : List Float → List Float → Float → Float → ℕ → Bool
 crosses cs ss a b j = changes (sideAt cs ss a b j) (sideAt cs ss a b (afterOf j))
 
@@ -31,15 +32,16 @@ unfoldable pub hueAt : List Float → List Float → Float → Float → ℕ →
 hueAt cs ss a b j =
     let x = sideAt cs ss a b j in
     let y = neg (sideAt cs ss a b (afterOf j)) in
-    mul binary32 (round binary32 false 1 2) (add binary32 (whole j) (div binary32 x (add binary32 x y)))
+    mul binary32 (round binary32 false 1 2) (add binary32 (f32Of j) (div binary32 x (add binary32 x y)))
 
 -- the hue at the first such j of the n from j on, and 0 if there is none
 unfoldable pub hueFrom : List Float → List Float → Float → Float → ℕ → ℕ → Float
-hueFrom cs ss a b zero j = whole 0
+hueFrom cs ss a b zero j = f32Of 0
 hueFrom cs ss a b (suc n) j =
     let later = hueFrom cs ss a b n (suc j) in
     cond (crosses cs ss a b j) (hueAt cs ss a b j) later
 
+-- among all 720
 unfoldable pub hueOf : List Float → List Float → Float → Float → Float
 hueOf cs ss a b = hueFrom cs ss a b 720 0
 

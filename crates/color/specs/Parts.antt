@@ -6,5 +6,6 @@ use Rattle.color.specs.declared.Srgb8.{Srgb8}
 abbrev pub fromHex : ℕ → Srgb8
 fromHex hex = record { r = hex / 65536 % 256; g = hex / 256 % 256; b = hex % 256 }
 
+-- 0xRRGGBB
 abbrev pub toHex : Srgb8 → ℕ
 toHex c = c .r * 65536 + c .g * 256 + c .b

@@ -5,7 +5,7 @@ use roots::Root;
 ghost use mathlib.Core.Path.{_≡_};
 ghost use lib.ListN.{length};
 ghost use Prim.Native.Nat.{_<_};
-ghost use Rattle.color.specs.Color.{clampTo, gamutChannel, rootInside, srgb8ToLinear, linearToSrgb8, weigh, linearToXyz, xyzToLinear, labF, labFInv, xyzToLab, labToXyz, linearToLab, labToLinear, srgb8ToLab, clampedOf, inGamut, chromaOf, lchToLab, lchInGamut};
+ghost use Rattle.color.specs.Color.{clampTo, gamutChannel, orOperand, rootInside, srgb8ToLinear, linearToSrgb8, weigh, linearToXyz, xyzToLinear, labF, labFInv, xyzToLab, labToXyz, linearToLab, labToLinear, srgb8ToLab, clampedOf, inGamut, chromaOf, lchToLab, lchInGamut};
 ghost use Rattle.color.specs.Parts.{fromHex, toHex};
 ghost use Rattle.color.specs.Hue.{sideAt, changes, hueOf, hueSaid, hueSays};
 ghost use Rattle.color.specs.Clip.{clippedOf};
@@ -33,13 +33,13 @@ pub struct Lab {
 
 // A hue in degrees, or why none is given.
 pub enum Hue {
-    // from 0 to 360, both included
+    // in degrees; 360 itself can occur
     Degrees(f32),
     // refused by 9 for the directions, by 16 for a or b
     Refused(Refusal),
 }
 
-// A colour that the panel can show, and the chroma at which it was taken.
+// An 8-bit colour, and the chroma it ended at.
 pub struct Clipped {
     pub color: Srgb8,
     pub chroma: f32,
@@ -144,26 +144,28 @@ impl Linear {
     }
 }
 
-// The square root inside a conversion, where nothing is refused: plus infinity and NaN come back as they are.
-fn sqrt_inside(x: f32) -> f32
-    ensures { λ r. ⌜ r ≡ rootInside 2 x ⌝ }
+// A root inside a conversion, where nothing is refused: plus infinity and NaN come back as they are.
+fn or_operand(root: Root, x: f32) -> f32
+    ensures { λ r. ⌜ r ≡ orOperand root x ⌝ }
 {
-    let root = roots::sqrt(x);
     match root {
         Root::Is(r) => r,
         Root::Refused(_) => x,
     }
 }
 
+// The square root inside a conversion.
+fn sqrt_inside(x: f32) -> f32
+    ensures { λ r. ⌜ r ≡ rootInside 2 x ⌝ }
+{
+    or_operand(roots::sqrt(x), x)
+}
+
 // The cube root inside a conversion.
 fn cbrt_inside(x: f32) -> f32
     ensures { λ r. ⌜ r ≡ rootInside 3 x ⌝ }
 {
-    let root = roots::cbrt(x);
-    match root {
-        Root::Is(r) => r,
-        Root::Refused(_) => x,
-    }
+    or_operand(roots::cbrt(x), x)
 }
 
 // An 8-bit sRGB colour in linear light.
@@ -308,7 +310,7 @@ pub fn lch_in_gamut(l: f32, c: f32, cos: f32, sin: f32) -> bool
     lab_to_linear(lch_to_lab(l, c, cos, sin)).in_gamut()
 }
 
-// Polar CIELAB to 8-bit sRGB, the chroma lowered by 24 halvings until the colour is in gamut.
+// Polar CIELAB to 8-bit sRGB. A colour out of gamut is taken at the chroma that 24 halvings end at, and clamped.
 pub fn lch_to_srgb8_gamut_clipped(l: f32, c: f32, cos: f32, sin: f32) -> Clipped
     ensures { λ r. ⌜ r ≡ clippedOf l c cos sin ⌝ }
 {
@@ -336,7 +338,7 @@ pub fn lch_to_srgb8_gamut_clipped(l: f32, c: f32, cos: f32, sin: f32) -> Clipped
     }
 }
 
-// On which side of direction j the colour (a, b) lies: not negative on the side that turns back.
+// On which side of direction j the colour (a, b) lies: not negative on that direction and up to half a turn beyond it.
 fn side(cos: &[f32], sin: &[f32], a: f32, b: f32, j: usize) -> f32
     requires { ⌜ (j < length (now cos)) × (j < length (now sin)) ⌝ }
     ensures { λ r. ⌜ r ≡ sideAt (now (cos .entry)) (now (sin .entry)) a b j ⌝ }
@@ -354,7 +356,7 @@ fn changes_side(x: f32, next: f32) -> bool
     false
 }
 
-// The hue of (a, b): between the first two directions that it lies between.
+// The hue of (a, b), by the first direction j with (a, b) between it and the next, and 0 if there is none.
 fn hue_of(cos: &[f32], sin: &[f32], a: f32, b: f32) -> f32
     requires { ⌜ (length (now cos) ≡ 720) × (length (now sin) ≡ 720) ⌝ }
     ensures { λ r. ⌜ r ≡ hueOf (now (cos .entry)) (now (sin .entry)) a b ⌝ }

@@ -6,7 +6,8 @@ use Prim.Native.Nat.{ℕ, zero, suc, _≤_}
 use native.Mathlib.Omega.{arith}
 use lib.Ieee.{Float, nan, ofInt}
 use lib.ListN.{getD}
-use Rattle.limits.specs.Taken.{upTo, whole, entryTaken, every}
+use Rattle.limits.specs.Taken.{upTo, f32Of, entryTaken, every}
+use Rattle.limits.proofs.Floats.{never}
 use Rattle.halving.specs.Midpoint.{halve}
 use Rattle.halving.proofs.Range.{UpTo, halve-up-to, up-to-taken}
 use Rattle.color.specs.Color.{lchInGamut}
@@ -15,9 +16,9 @@ use Rattle.gamut.specs.Gamut.{maxChroma, entriesFrom, rowOf}
 -- whatever the lightness and the direction are
 chroma-up-to : (l cos sin : Float) → UpTo 200 (maxChroma l cos sin)
 unfolding maxChroma ofInt
-chroma-up-to l cos sin = go (lchInGamut l cos sin (whole 200)) (halve (lchInGamut l cos sin) 40 (whole 0) (whole 200)) (halve-up-to 200 (lchInGamut l cos sin) 40 (whole 0) (whole 200) (omega arith) (omega arith) (omega arith))
+chroma-up-to l cos sin = go (lchInGamut l cos sin (f32Of 200)) (halve (lchInGamut l cos sin) 40 (f32Of 0) (f32Of 200)) (halve-up-to 200 (lchInGamut l cos sin) 40 (f32Of 0) (f32Of 200) (omega arith) (omega arith) (omega arith))
   where
-    go : (t : Bool) (found : Float) → UpTo 200 found → UpTo 200 (cond t (whole 200) found)
+    go : (t : Bool) (found : Float) → UpTo 200 found → UpTo 200 (cond t (f32Of 200) found)
     go true found h = omega arith
     go false found h = h
 
@@ -45,4 +46,4 @@ rows-taken (x ∷ row) table r t =
   where
     both : (a b : Bool) → (a && b) ≡ true → (a ≡ true) × (b ≡ true)
     both true b h = (refl, h)
-    both false b h = absurd (let z : _≡_ {A = ℕ} 0 1 = cc in omega arith)
+    both false b h = never h

@@ -7,7 +7,7 @@ use lib.Ieee.{Float, nan, binary32, round, add, mul}
 use lib.ListN.{length, getD}
 use Rattle.limits.specs.Answers.{Said, value, refused}
 use Rattle.limits.specs.Refusals.{number}
-use Rattle.limits.specs.Taken.{whole, directionsTaken}
+use Rattle.limits.specs.Taken.{f32Of, directionsTaken}
 use Rattle.halving.specs.Midpoint.{halve}
 use Rattle.color.specs.Color.{lchInGamut}
 use Rattle.gamut.specs.declared.Filling.{Filling}
@@ -15,13 +15,13 @@ use Rattle.gamut.specs.declared.Filling.the-variants.{Filled, Refused}
 
 -- level i is 12 + 0.5 × i
 unfoldable pub levelOf : ℕ → Float
-levelOf i = add binary32 (whole 12) (mul binary32 (whole i) (round binary32 false 1 2))
+levelOf i = add binary32 (f32Of 12) (mul binary32 (f32Of i) (round binary32 false 1 2))
 
 -- `max_chroma`: 200 if in gamut there, else 40 halvings from 0 to 200
 unfoldable pub maxChroma : Float → Float → Float → Float
 maxChroma l cos sin =
-    let found = halve (lchInGamut l cos sin) 40 (whole 0) (whole 200) in
-    cond (lchInGamut l cos sin (whole 200)) (whole 200) found
+    let found = halve (lchInGamut l cos sin) 40 (f32Of 0) (f32Of 200) in
+    cond (lchInGamut l cos sin (f32Of 200)) (f32Of 200) found
 
 -- the entries of n hues from j on, at lightness l
 unfoldable pub entriesFrom : Float → List Float → List Float → ℕ → ℕ → List Float

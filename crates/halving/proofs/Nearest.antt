@@ -63,7 +63,7 @@ module _ (n a c a' c' : ℕ) (C : 0 < c) (C' : 0 < c') (same : a * c' ≡ a' * c
       mul-assoc (2 ^ n) (a' * P) c ∙ ap (λ (x : ℕ). 2 ^ n * x) (mul-right-comm a' P c ∙ ap (λ (x : ℕ). x * P) (sym same) ∙ mul-right-comm a c' P) ∙ sym (mul-assoc (2 ^ n) (a * P) c') in
       le-of-mul-le-mul-right (le-trans (le-of-eq e) (le-trans (mul-le-mul-right c' h) (le-of-eq (mul-right-comm S c c')))) C
 
-half-way-same : (n a c a' c' : ℕ) → 0 < c → 0 < c' → a * c' ≡ a' * c → (b : ℕ) → halfWay n a c b ≡ halfWay n a' c' b
+pub half-way-same : (n a c a' c' : ℕ) → 0 < c → 0 < c' → a * c' ≡ a' * c → (b : ℕ) → halfWay n a c b ≡ halfWay n a' c' b
 unfolding halfWay
 half-way-same n a c a' c' C C' e b = go (leb L R) (leb L' R') refl refl
   where

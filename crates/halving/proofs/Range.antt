@@ -1,6 +1,6 @@
 -- The midpoint of two numbers from 0 to b is one too, with its sign bit clear, for any whole b that an f32 holds doubled; so is all that a halving meets. Assumes nothing.
 use mathlib.Core.Path.{_≡_, refl, sym, ap, _∙_, subst}
-use mathlib.Core.Bool.{Bool, true, false, not, _&&_, _||_, cond, true≢false}
+use mathlib.Core.Bool.{Bool, true, false, not, _&&_, _||_, cond}
 use mathlib.Core.Logic.{_⊎_, inl, inr}
 use Prim.Native.Nat.{ℕ, zero, suc, _+_, _*_, _^_, _≤_, _<_}
 use native.Mathlib.Nat.{le-trans, le-of-eq, le-of-lt, lt-irrefl, mul-assoc, mul-comm, mul-left-comm, mul-right-comm, mul-one, one-mul, add-mul, mul-le-mul-right, mul-pos, le-of-mul-le-mul-right}
@@ -13,8 +13,8 @@ use lib.Ieee.Exact.{HasValue}
 use lib.Ieee.Fits.{down-pos}
 use lib.Ieee.Order.{round-mono}
 use borrow.Author.Tests.{ltb-true, ltb-false, eqb-true, le-ltb, not-true}
-use Rattle.limits.specs.Taken.{signBit, upTo, whole}
-use Rattle.limits.proofs.Floats.{round-sign}
+use Rattle.limits.specs.Taken.{signBit, signClear, upTo, f32Of}
+use Rattle.limits.proofs.Floats.{never, round-sign}
 use Rattle.halving.specs.Midpoint.{midpoint, halve}
 
 -- a number from 0 to b whose sign bit is clear
@@ -23,9 +23,6 @@ UpTo b nan = ⊥
 UpTo b (inf s) = ⊥
 UpTo b (fin true m e) = ⊥
 UpTo b (fin false m e) = m * up e ≤ b * down e
-
-never : {A : Type 0} → _≡_ {A = Bool} true false → A
-never h = absurd (true≢false h)
 
 -- ---- a comparison with a whole number b, by the fractions
 cancel : (x b de n dd : ℕ) → 0 < dd → n ≡ b * dd → x * dd ≤ n * de → x ≤ b * de
@@ -46,14 +43,14 @@ le-or a b t = go (ltb a b) (eqb a b) (ltb-true a b) (eqb-true a b) t
 bounded : (x y : Float) (b : ℕ) → T (le x y) → signBit x ≡ false → HasValue y false b 1 → UpTo b x
 unfolding le lt eq signBit
 bounded nan y b l s v = l
-bounded (inf true) y b l s v = never s
+bounded (inf true) y b l s v = never (sym s)
 bounded (inf false) nan b l s v = v
 bounded (inf false) (inf t) b l s v = v
 bounded (inf false) (fin t n d) b l s v = l
-bounded (fin true m e) y b l s v = never s
+bounded (fin true m e) y b l s v = never (sym s)
 bounded (fin false m e) nan b l s v = absurd v
 bounded (fin false m e) (inf t) b l s v = absurd v
-bounded (fin false m e) (fin true n d) b l s v = never (v .0)
+bounded (fin false m e) (fin true n d) b l s v = never (sym (v .0))
 bounded (fin false m e) (fin false n d) b l s v =
     cancel (m * up e) b (down e) (n * up d) (down d) (down-pos d) (sym (mul-one (n * up d)) ∙ v .1) (le-or (m * up e * down d) (n * up d * down e) l)
 
@@ -109,34 +106,34 @@ halve-up-to b ok (suc n) lo hi B p q =
 
 -- ---- what the checks of `limits` take as a number up to b
 not-above : (x y : Float) (b : ℕ) → HasValue y false b 1 → UpTo b x → upTo y x ≡ true
-unfolding upTo isNan signBit lt
+unfolding upTo signClear isNan signBit lt
 not-above nan y b v p = absurd p
 not-above (inf s) y b v p = absurd p
 not-above (fin true m e) y b v p = absurd p
 not-above (fin false m e) nan b v p = absurd v
 not-above (fin false m e) (inf t) b v p = absurd v
-not-above (fin false m e) (fin true n d) b v p = never (v .0)
+not-above (fin false m e) (fin true n d) b v p = never (sym (v .0))
 not-above (fin false m e) (fin false n d) b v p =
     ap not (le-ltb (n * up d * down e) (m * up e * down d) (spread (m * up e) b (down e) (n * up d) (down d) (sym (mul-one (n * up d)) ∙ v .1) p))
 
 within : (x y : Float) (b : ℕ) → HasValue y false b 1 → upTo y x ≡ true → UpTo b x
-unfolding upTo isNan signBit lt
-within nan y b v h = never (sym h)
-within (inf true) y b v h = never (sym h)
+unfolding upTo signClear isNan signBit lt
+within nan y b v h = never h
+within (inf true) y b v h = never h
 within (inf false) nan b v h = v
 within (inf false) (inf t) b v h = v
-within (inf false) (fin t n d) b v h = never (sym h)
-within (fin true m e) y b v h = never (sym h)
+within (inf false) (fin t n d) b v h = never h
+within (fin true m e) y b v h = never h
 within (fin false m e) nan b v h = absurd v
 within (fin false m e) (inf t) b v h = absurd v
-within (fin false m e) (fin true n d) b v h = never (v .0)
+within (fin false m e) (fin true n d) b v h = never (sym (v .0))
 within (fin false m e) (fin false n d) b v h =
     cancel (m * up e) b (down e) (n * up d) (down d) (down-pos d) (sym (mul-one (n * up d)) ∙ v .1) (ltb-false (n * up d * down e) (m * up e * down d) (not-true (ltb (n * up d * down e) (m * up e * down d)) h))
 
-pub up-to-taken : (b : ℕ) (x : Float) → b ≤ 16777216 → UpTo b x → upTo (whole b) x ≡ true
+pub up-to-taken : (b : ℕ) (x : Float) → b ≤ 16777216 → UpTo b x → upTo (f32Of b) x ≡ true
 unfolding ofInt
 up-to-taken b x B p = not-above x (round binary32 false b 1) b (round-whole binary32 false b B) p
 
-pub taken-up-to : (b : ℕ) (x : Float) → b ≤ 16777216 → upTo (whole b) x ≡ true → UpTo b x
+pub taken-up-to : (b : ℕ) (x : Float) → b ≤ 16777216 → upTo (f32Of b) x ≡ true → UpTo b x
 unfolding ofInt
 taken-up-to b x B h = within x (round binary32 false b 1) b (round-whole binary32 false b B) h

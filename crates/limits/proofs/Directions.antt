@@ -2,12 +2,11 @@
 use mathlib.Core.Path.{_≡_, refl}
 use mathlib.Core.Bool.{Bool, true, false, _&&_}
 use mathlib.Core.List.{List}
-use Prim.Native.Nat.{ℕ}
-use native.Mathlib.Omega.{arith}
 use lib.Dec.{eqb}
 use lib.Ieee.{Float}
 use lib.ListN.{length}
 use borrow.Author.Tests.{eqb-true}
+use Rattle.limits.proofs.Floats.{never}
 use Rattle.limits.specs.Taken.{every, directionTaken, directionsTaken}
 
 pub directions-long : (cs ss : List Float) → directionsTaken cs ss ≡ true → (length cs ≡ 720) × (length ss ≡ 720)
@@ -16,5 +15,5 @@ directions-long cs ss h = go (eqb (length cs) 720) (eqb (length ss) 720) (eqb-tr
   where
     go : (a b : Bool) → (a ≡ true → length cs ≡ 720) → (b ≡ true → length ss ≡ 720) → (a && (b && (every directionTaken cs && every directionTaken ss))) ≡ true → (length cs ≡ 720) × (length ss ≡ 720)
     go true true f g e = (f refl, g refl)
-    go true false f g e = absurd (let z : _≡_ {A = ℕ} 0 1 = cc in omega arith)
-    go false b f g e = absurd (let z : _≡_ {A = ℕ} 0 1 = cc in omega arith)
+    go true false f g e = never e
+    go false b f g e = never e

@@ -1,14 +1,19 @@
 -- What the code's own tests of an f32 say: `x != x` finds the NaN, and the top bit of the pattern is the sign bit. Assumes nothing.
 use mathlib.Core.Path.{_≡_, refl, sym, ap, _∙_, subst}
-use mathlib.Core.Bool.{Bool, true, false, not, _&&_, _||_, Bool·beq, cond}
+use mathlib.Core.Bool.{Bool, true, false, not, _&&_, _||_, Bool·beq, cond, true≢false}
 use Prim.Native.Nat.{ℕ, zero, suc, _+_, _-_, _*_, _/_, _%_, _^_, _≤_, _<_, compare}
 use lib.Dec.{T, leb, ltb, eqb, eqb-refl}
 use lib.IntN.{ℤ}
 use lib.Ieee.{Float, nan, inf, fin, binary32, up, down, size, nearest, units, round, odd, ofFields, ofBits, toBits, fits, isNan, ne, level}
 use lib.Ieee.Bits.{is-true, ofBits-toBits}
+use lib.Ieee.Scale.{finite}
 use native.Mathlib.Omega.{arith}
 use borrow.Author.Tests.{ltb-true, ltb-false, leb-true, leb-false, lt-ltb, le-ltb, lt-leb}
-use Rattle.limits.specs.Taken.{signBit, finite, rootOperandTaken}
+use Rattle.limits.specs.Taken.{signBit, rootOperandTaken}
+
+-- true is not false
+pub never : {A : Type 0} → _≡_ {A = Bool} false true → A
+never e = absurd (true≢false (sym e))
 
 -- ---- a NaN, and nothing else, differs from itself
 beq-self : (s : Bool) → Bool·beq s s ≡ true
@@ -63,12 +68,12 @@ top-bit x F h =
 
 -- ---- what is finite with its sign bit clear has a pattern below that of the infinity
 full-field : (t : ℕ) → finite (ofFields binary32 false 255 t) ≡ true → ⊥
-unfolding ofFields finite
+unfolding ofFields
 full-field t h = go (eqb t 0) h
   where
     go : (b : Bool) → finite (cond b (inf false) nan) ≡ true → ⊥
-    go true e = let z : _≡_ {A = ℕ} 0 1 = cc in omega arith
-    go false e = let z : _≡_ {A = ℕ} 0 1 = cc in omega arith
+    go true e = never e
+    go false e = never e
 
 pattern-finite : (b : ℕ) → b < 2147483648 → finite (ofBits binary32 b) ≡ true → b < 2139095040
 unfolding ofBits
@@ -83,10 +88,10 @@ pattern-finite b u h = go (ltb b 2139095040) refl
         absurd (full-field (b % 8388608) (rw (s, m) at h))
 
 taken : (x : Float) → rootOperandTaken x ≡ true → (finite x ≡ true) × ((signBit x ≡ false) × (isNan x ≡ false))
-unfolding rootOperandTaken finite signBit isNan
-taken nan h = absurd (let z : _≡_ {A = ℕ} 0 1 = cc in omega arith)
-taken (inf s) h = absurd (let z : _≡_ {A = ℕ} 0 1 = cc in omega arith)
-taken (fin true m e) h = absurd (let z : _≡_ {A = ℕ} 0 1 = cc in omega arith)
+unfolding rootOperandTaken signBit isNan
+taken nan h = never h
+taken (inf s) h = never h
+taken (fin true m e) h = never h
 taken (fin false m e) h = (refl, (refl, refl))
 
 pub operand-no-nan : (x : Float) → rootOperandTaken x ≡ true → isNan x ≡ false

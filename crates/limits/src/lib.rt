@@ -17,11 +17,11 @@ pub enum Refusal {
     RingLength,
     // 5: spacing 0 or above the ring length
     Spacing,
-    // 6: table length not levels × 720
+    // 6: table length not levels × 720 with 1 to 169 levels
     TableLength,
     // 7: an entry read that is NaN, has its sign bit set, or exceeds 200
     Entry,
-    // 8: work buffer too short
+    // 8: work buffer shorter than 3 × ring length
     WorkBuffer,
     // 9: cosine or sine slice not 720 long, or a component NaN or outside -1 to 1
     Directions,
@@ -29,15 +29,15 @@ pub enum Refusal {
     RowLength,
     // 11: level index above 168
     LevelIndex,
-    // 12: hue index above 719
+    // 12: one of the first k hue indices above 719
     HueIndex,
     // 13: colour count not 2k
     ColorCount,
     // 14: job finished
     Finished,
-    // 15: job record broken
+    // 15: job record broken: a field out of range, or position above levels²
     Broken,
-    // 16: root or hue operand out of range
+    // 16: root operand not finite or with sign bit set; hue operand NaN or beyond ±1000
     Operand,
     // 17: text line malformed
     Line,
@@ -103,42 +103,42 @@ fn up_to(x: f32, most: f32) -> bool
     false
 }
 
-// Whether k is a hue count.
+// Whether k is accepted as a hue count (number 1).
 pub fn takes_hue_count(k: usize) -> bool
     ensures { λ r. ⌜ r ≡ hueCountTaken k ⌝ }
 {
     1 <= k && k <= 16
 }
 
-// Whether x is a gap.
+// Whether x is accepted as a gap (number 2).
 pub fn takes_gap(x: f32) -> bool
     ensures { λ r. ⌜ r ≡ gapTaken x ⌝ }
 {
     up_to(x, 84.0)
 }
 
-// Whether x is a chroma.
+// Whether x is accepted as a chroma (number 3).
 pub fn takes_chroma(x: f32) -> bool
     ensures { λ r. ⌜ r ≡ chromaTaken x ⌝ }
 {
     up_to(x, 200.0)
 }
 
-// Whether x is an entry of a table.
+// Whether x is accepted as an entry of a table (number 7).
 pub fn takes_entry(x: f32) -> bool
     ensures { λ r. ⌜ r ≡ entryTaken x ⌝ }
 {
     up_to(x, 200.0)
 }
 
-// Whether x is a component of a direction.
+// Whether x is accepted as a component of a direction (number 9).
 pub fn takes_direction(x: f32) -> bool
     ensures { λ r. ⌜ r ≡ directionTaken x ⌝ }
 {
     within(x, -1.0, 1.0)
 }
 
-// Whether a root is taken of x.
+// Whether x is accepted as a root operand (number 16).
 pub fn takes_root_operand(x: f32) -> bool
     ensures { λ r. ⌜ r ≡ rootOperandTaken x ⌝ }
 {
@@ -148,7 +148,7 @@ pub fn takes_root_operand(x: f32) -> bool
     false
 }
 
-// Whether x is taken as a or b of a hue.
+// Whether x is accepted as a or b of a hue (number 16).
 pub fn takes_hue_operand(x: f32) -> bool
     ensures { λ r. ⌜ r ≡ hueOperandTaken x ⌝ }
 {

@@ -3,3 +3,4 @@ pub mod Digits
 pub mod Scale
 pub mod NoTie
 pub mod Assemble
+pub mod Nearest

@@ -12,7 +12,7 @@ use lib.Ieee.Positive.{positive}
 use Rattle.halving.proofs.Least.{below-or-not}
 use Rattle.transfer.specs.Transfer.{thresholdOf, countTo, encodeOf}
 use Rattle.transfer.proofs.Rules.{thresholdPattern}
-use Rattle.transfer.proofs.Order.{holds-true, pattern-positive, pattern-le, onward}
+use Rattle.halving.proofs.Order.{holds-true, pattern-positive, pattern-le, onward}
 use Rattle.transfer.proofs.Steps.{threshold-le, threshold-above-zero, threshold-to-one}
 
 -- the constants are above zero

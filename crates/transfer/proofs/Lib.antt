@@ -1,6 +1,5 @@
 pub mod Table
 pub mod Rules
-pub mod Order
 pub mod Steps
 pub mod Count
 pub mod Transfer

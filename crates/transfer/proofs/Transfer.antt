@@ -16,7 +16,7 @@ use Rattle.halving.proofs.Nearest.{sums, below}
 use Rattle.transfer.specs.Transfer.{decodeOf, meets, thresholdOf, encodeOf}
 use Rattle.transfer.proofs.Table.{throughout, each}
 use Rattle.transfer.proofs.Rules.{degree, dividend, divisor, decodePattern, thresholdPattern, decode-is, meets-lasts}
-use Rattle.transfer.proofs.Order.{holds-true, pattern-positive, pattern-le, pattern-above, onward}
+use Rattle.halving.proofs.Order.{holds-true, pattern-positive, pattern-le, pattern-above, onward}
 use Rattle.transfer.proofs.Steps.{reached, not-reached, threshold-le, threshold-to-one, decode-to-one}
 use Rattle.transfer.proofs.Count.{threshold-positive, encode-is}
 

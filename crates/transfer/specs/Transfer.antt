@@ -16,7 +16,7 @@ decodeOf n = cond (leb n 10) (nearestRoot 1 (5 * n) 16473) (nearestRoot 5 ((200 
 unfoldable pub meets : ℕ → ℕ → Bool
 meets n b = cond (leb n 10) (leb (5 * (2 * n - 1) * 2 ^ 149) (2 * 16473 * worth b)) (leb ((200 * n + 2705) ^ 12 * 2 ^ 745) (worth b ^ 5 * 53805 ^ 12))
 
--- "constant n, from 1 to 255, is the least f32" that meets this
+-- "constant n, from 1 to 255, is the least f32" that meets this; no negative f32 does, since 0 does not
 unfoldable pub thresholdOf : ℕ → Float
 thresholdOf n = ofBits binary32 (least (meets n) 31 0)
 

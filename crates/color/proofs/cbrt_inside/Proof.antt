@@ -1,24 +1,18 @@
 -- `color::cbrt_inside` meets its contract, by what the root's answer says. Assumes nothing.
-use mathlib.Core.Path.{sym, _∙_}
+use mathlib.Core.Path.{_∙_}
 use borrow.Author.Needs.{needs}
-use Rattle.color.proofs.Inside.{given, kept}
+use Rattle.color.proofs.Inside.{inside}
 use Rattle.color.proofs.cbrt_inside.Statement.{statement}
 use Rattle.color.proofs.cbrt_inside.Tie as tie
 
 cbrt-requires : tie.Need-cbrt-requires
 cbrt-requires c κs = search needs
 
-enum-known-root : tie.Need-enum-known-root
-enum-known-root c = search needs
-
-enum-told : tie.Need-enum-told
-enum-told c = search needs
+or-operand-requires : tie.Need-or-operand-requires
+or-operand-requires c κs = search needs
 
 returns : tie.Need-returns
-returns c = given 3 _ _ _ (c .before .root .given .1) (c .before .before .before .cbrt .ensures)
-
-returns-2 : tie.Need-returns-2
-returns-2 c = kept 3 _ _ _ (c .enum-told .given .1) (c .before .before .cbrt .ensures)
+returns c = c .or-operand .ensures ∙ inside 3 _ (c .before .cbrt .result) (c .before .cbrt .ensures)
 
 pub cbrt-inside-spec : {M : Type 1} → statement M
-cbrt-inside-spec = tie.close (tie.spec cbrt-requires enum-known-root enum-told returns returns-2)
+cbrt-inside-spec = tie.close (tie.spec cbrt-requires or-operand-requires returns)

@@ -6,7 +6,7 @@ use Prim.Native.Nat.{_+_, _-_, _≤_, _<_}
 use native.Mathlib.Omega.{arith}
 use lib.Ieee.{Float, ofBits, ofInt}
 use borrow.Author.Needs.{needs}
-use Rattle.limits.specs.Taken.{whole}
+use Rattle.limits.specs.Taken.{f32Of}
 use Rattle.halving.specs.Midpoint.{halve}
 use Rattle.halving.proofs.Halve.{turn-up, turn-down, turned}
 use Rattle.color.specs.Color.{lchInGamut}

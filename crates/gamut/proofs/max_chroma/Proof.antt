@@ -5,7 +5,7 @@ use Prim.Native.Nat.{_+_, _-_, _≤_, _<_}
 use native.Mathlib.Omega.{arith}
 use lib.Ieee.{ofBits, ofInt}
 use borrow.Author.Needs.{needs}
-use Rattle.limits.specs.Taken.{whole}
+use Rattle.limits.specs.Taken.{f32Of}
 use Rattle.halving.specs.Midpoint.{halve}
 use Rattle.halving.proofs.Halve.{turn-up, turn-down, turned}
 use Rattle.color.specs.Color.{lchInGamut}
@@ -14,7 +14,7 @@ use Rattle.gamut.proofs.max_chroma.Statement.{statement}
 use Rattle.gamut.proofs.max_chroma.Tie as tie
 
 abbrev Inv-loop : tie.InvT-loop
-Inv-loop l cos sin lo₀ hi₀ i₀ lo hi i = (i ≤ 40) × (halve (lchInGamut l cos sin) (40 - i) lo hi ≡ halve (lchInGamut l cos sin) 40 (whole 0) (whole 200))
+Inv-loop l cos sin lo₀ hi₀ i₀ lo hi i = (i ≤ 40) × (halve (lchInGamut l cos sin) (40 - i) lo hi ≡ halve (lchInGamut l cos sin) 40 (f32Of 0) (f32Of 200))
 
 abbrev μ-loop : tie.MeasureT-loop
 μ-loop l cos sin lo₀ hi₀ i₀ lo hi i = 40 - i

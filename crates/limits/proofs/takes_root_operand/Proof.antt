@@ -3,12 +3,12 @@ use mathlib.Core.Path.{_≡_, refl, sym, _∙_}
 use mathlib.Core.Bool.{Bool, true, false, not, _||_}
 use lib.Ieee.{Float, nan, inf, fin, isNan, lt, ofBits, nanBits}
 use borrow.Author.Needs.{needs}
-use Rattle.limits.specs.Taken.{signBit, finite, signClear, rootOperandTaken}
+use Rattle.limits.specs.Taken.{signBit, signClear, rootOperandTaken}
 use Rattle.limits.proofs.takes_root_operand.Statement.{statement}
 use Rattle.limits.proofs.takes_root_operand.Tie as tie
 
 clear : (x : Float) → signClear x ≡ true → lt x (inf false) ≡ rootOperandTaken x
-unfolding signClear signBit isNan lt finite rootOperandTaken
+unfolding signClear signBit isNan lt rootOperandTaken
 clear nan e = cc
 clear (inf true) e = cc
 clear (inf false) e = refl
@@ -16,7 +16,7 @@ clear (fin true m k) e = cc
 clear (fin false m k) e = refl
 
 not-clear : (x : Float) → signClear x ≡ false → false ≡ rootOperandTaken x
-unfolding signClear signBit isNan lt finite rootOperandTaken
+unfolding signClear signBit isNan lt rootOperandTaken
 not-clear nan e = refl
 not-clear (inf s) e = refl
 not-clear (fin true m k) e = refl

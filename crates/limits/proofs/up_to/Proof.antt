@@ -1,27 +1,19 @@
 -- `limits::up_to` meets its contract, by what `sign_clear` says of its operand. Assumes nothing.
-use mathlib.Core.Path.{_≡_, refl, sym, ap, _∙_}
-use mathlib.Core.Bool.{Bool, true, false, not, _||_}
-use lib.Ieee.{Float, isNan, lt}
+use mathlib.Core.Path.{_≡_, sym, _∙_}
+use mathlib.Core.Bool.{true, false, not}
+use lib.Ieee.{Float, lt}
 use borrow.Author.Needs.{needs}
-use Rattle.limits.specs.Taken.{signBit, signClear, upTo}
+use Rattle.limits.specs.Taken.{signClear, upTo}
 use Rattle.limits.proofs.up_to.Statement.{statement}
 use Rattle.limits.proofs.up_to.Tie as tie
 
 clear : (x most : Float) → signClear x ≡ true → not (lt most x) ≡ upTo most x
-unfolding signClear upTo
-clear x most e = go (isNan x || signBit x) e
-  where
-    go : (a : Bool) → not a ≡ true → not (lt most x) ≡ not (a || lt most x)
-    go true e = cc
-    go false e = refl
+unfolding upTo
+clear x most e = rw e
 
 not-clear : (x most : Float) → signClear x ≡ false → false ≡ upTo most x
-unfolding signClear upTo
-not-clear x most e = go (isNan x || signBit x) e
-  where
-    go : (a : Bool) → not a ≡ false → false ≡ not (a || lt most x)
-    go true e = refl
-    go false e = cc
+unfolding upTo
+not-clear x most e = rw e
 
 sign-clear-requires : tie.Need-sign-clear-requires
 sign-clear-requires c κs = search needs

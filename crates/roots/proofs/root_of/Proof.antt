@@ -5,31 +5,25 @@ use mathlib.Core.Bool.{Bool, true, false, not, cond}
 use Prim.Native.Nat.{ℕ, _*_, _^_, _≤_, _<_}
 use native.Mathlib.Omega.{arith}
 use lib.Dec.{T}
-use lib.Pow.{pow-pos}
 use lib.Ieee.{Float, nan, inf, fin, binary32, fits, isNan, nanBits, ofBits, toBits}
-use lib.Ieee.Bits.{ofBits-toBits, nanBits-is}
+use lib.Ieee.Bits.{nanBits-is}
 use lib.Ieee.Exact.{HasValue}
-use lib.Ieee.Positive.{num, den, den-pos, value→cross}
 use borrow.Author.Needs.{needs}
 use Rattle.limits.specs.Answers.{Said, value, refused}
 use Rattle.limits.specs.Taken.{rootOperandTaken}
 use Rattle.limits.proofs.Floats.{operand-no-nan, operand-pattern}
-use Rattle.halving.specs.Patterns.{worth, least, halfWay, nearestRoot}
+use Rattle.halving.specs.Patterns.{worth, least, halfWay}
 use Rattle.halving.proofs.Patterns.{pattern-value}
-use Rattle.halving.proofs.Nearest.{nearest-same}
-use Rattle.roots.specs.Roots.{rootOf, rootSays}
+use Rattle.roots.specs.Roots.{rootSays}
+use Rattle.roots.proofs.Nearest.{rootPattern, root-is}
 use Rattle.roots.proofs.root_of.Statement.{statement}
 use Rattle.roots.proofs.root_of.Tie as tie
 
 -- the root of an operand by its pattern
 by-pattern : (n : ℕ) (x : Float) → T (fits binary32 x) → rootOperandTaken x ≡ true
     → value (ofBits binary32 (least (halfWay n (worth (toBits binary32 x)) (2 ^ 149)) 31 0)) ≡ rootSays n x
-unfolding rootSays rootOf nearestRoot
-by-pattern n x F t =
-    let b = toBits binary32 x in
-    let v : HasValue x false (worth b) (2 ^ 149) = subst (λ (y : Float). HasValue y false (worth b) (2 ^ 149)) (ofBits-toBits binary32 x F) (pattern-value b (operand-pattern x F t)) in
-    let e : least (halfWay n (worth b) (2 ^ 149)) 31 0 ≡ least (halfWay n (num x) (den x)) 31 0 = nearest-same n (worth b) (2 ^ 149) (num x) (den x) (pow-pos 149) (den-pos x) (sym (value→cross x (worth b) (2 ^ 149) v)) in
-    rw t (ap (λ (k : ℕ). value (ofBits binary32 k)) e)
+unfolding rootSays rootPattern
+by-pattern n x F t = rw t (ap value (sym (root-is n x F t)))
 
 -- the root of zero
 zero-root : (n : ℕ) → (n ≡ 2) ⊎ (n ≡ 3) → least (halfWay n (worth 0) (2 ^ 149)) 31 0 ≡ 0
