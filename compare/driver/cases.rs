@@ -74,11 +74,17 @@ pub struct List<'a> {
 }
 
 impl List<'_> {
-    /// Begins a list made by this command: its head and the directions.
-    pub fn begin<'a>(out: &'a mut dyn Write, command: &str) -> io::Result<List<'a>> {
+    /// Begins a list of cases of this kind, over this published file and made by this
+    /// command: its head and the directions.
+    pub fn begin<'a>(
+        out: &'a mut dyn Write,
+        kind: &str,
+        source: &str,
+        command: &str,
+    ) -> io::Result<List<'a>> {
         writeln!(
             out,
-            "# Colour cases, one a line: operation, inputs, outputs, in hexadecimal."
+            "# {kind} cases, one a line: operation, inputs, outputs, in hexadecimal."
         )?;
         writeln!(
             out,
@@ -88,10 +94,7 @@ impl List<'_> {
             out,
             "# Made by: compare/build && target/compare/driver {command}"
         )?;
-        writeln!(
-            out,
-            "# The outputs are those of crates/lcr-core/src/color.rs of the repository"
-        )?;
+        writeln!(out, "# The outputs are those of {source} of the repository")?;
         writeln!(
             out,
             "# TheRincon/lcr-codes 7e9e1755be with the stand-ins of document 01."
@@ -99,14 +102,20 @@ impl List<'_> {
         let (cos, sin) = standins::directions();
         let mut list = List { out, cos, sin };
         for j in 0..standins::DIRECTIONS {
-            let words = [j as u32, word(list.cos[j]), word(list.sin[j])];
-            list.line("dir", &words)?;
+            list.direction(j, list.cos[j], list.sin[j])?;
         }
         Ok(list)
     }
 
+    /// Sets direction j.
+    pub fn direction(&mut self, j: usize, cos: f32, sin: f32) -> io::Result<()> {
+        self.cos[j] = cos;
+        self.sin[j] = sin;
+        self.line("dir", &[j as u32, word(cos), word(sin)])
+    }
+
     /// Writes one line.
-    fn line(&mut self, operation: &str, words: &[u32]) -> io::Result<()> {
+    pub fn line(&mut self, operation: &str, words: &[u32]) -> io::Result<()> {
         write!(self.out, "{operation}")?;
         for word in words {
             write!(self.out, " {word:x}")?;
@@ -128,15 +137,20 @@ impl List<'_> {
 
     /// Writes one hue with a component replaced: a cosine (which = 0) or a sine (1).
     pub fn hue_bad(&mut self, which: usize, j: usize, v: f32, lab: [f32; 3]) -> io::Result<()> {
-        self.line("bad", &[which as u32, j as u32, word(v)])?;
-        let kept = self.component(which, j, v);
+        let kept = self.bad(which, j, v)?;
         self.floats("hue", &lab)?;
         self.component(which, j, kept);
         Ok(())
     }
 
+    /// Writes that the next case has a component replaced, and gives the one it had before.
+    pub fn bad(&mut self, which: usize, j: usize, v: f32) -> io::Result<f32> {
+        self.line("bad", &[which as u32, j as u32, word(v)])?;
+        Ok(self.component(which, j, v))
+    }
+
     /// Replaces a component and gives the one it had before.
-    fn component(&mut self, which: usize, j: usize, v: f32) -> f32 {
+    pub fn component(&mut self, which: usize, j: usize, v: f32) -> f32 {
         let slice = if which == 0 {
             &mut self.cos
         } else {

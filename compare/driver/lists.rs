@@ -11,9 +11,9 @@ const BRANCHES: [f32; 2] = [216.0 / 24389.0, 6.0 / 29.0];
 /// The edges of the gamut test.
 const EDGES: [f32; 2] = [-1e-4, 1.0 + 1e-4];
 /// NaN, both infinities and both zeros.
-const ODD: [f32; 5] = [f32::NAN, f32::INFINITY, f32::NEG_INFINITY, 0.0, -0.0];
+pub const ODD: [f32; 5] = [f32::NAN, f32::INFINITY, f32::NEG_INFINITY, 0.0, -0.0];
 /// Components that are refused and components on the edge.
-const COMPONENTS: [f32; 9] = [
+pub const COMPONENTS: [f32; 9] = [
     f32::NAN,
     f32::INFINITY,
     f32::NEG_INFINITY,
@@ -26,7 +26,7 @@ const COMPONENTS: [f32; 9] = [
 ];
 
 /// The f32 whose bits lie this many steps further on.
-fn step(v: f32, by: i32) -> f32 {
+pub fn step(v: f32, by: i32) -> f32 {
     f32::from_bits(v.to_bits().wrapping_add_signed(by))
 }
 
@@ -164,9 +164,14 @@ fn random_directions_case(list: &mut List, random: &mut Random) -> io::Result<()
     list.hue_bad(random.below(2), random.below(DIRECTIONS), v, lab)
 }
 
+/// Begins a list of colour cases made by this command.
+fn begin<'a>(out: &'a mut dyn Write, command: &str) -> io::Result<List<'a>> {
+    List::begin(out, "Colour", "crates/lcr-core/src/color.rs", command)
+}
+
 /// Writes a random list of this many cases over all operations.
 pub fn many(out: &mut dyn Write, seed: u64, count: u64) -> io::Result<()> {
-    let mut list = List::begin(out, &format!("many {seed} {count}"))?;
+    let mut list = begin(out, &format!("many {seed} {count}"))?;
     let mut random = Random(seed);
     for _ in 0..count {
         let operation = random.pick(&OPERATIONS);
@@ -181,7 +186,7 @@ pub fn many(out: &mut dyn Write, seed: u64, count: u64) -> io::Result<()> {
 
 /// Writes the fixed list.
 pub fn fixed(out: &mut dyn Write) -> io::Result<()> {
-    let mut list = List::begin(out, "list")?;
+    let mut list = begin(out, "list")?;
     let mut random = Random(1);
     codes(&mut list)?;
     for n in [2, 3] {

@@ -1,11 +1,14 @@
-//! Writes lists of colour cases with the results of the published colour file, the
-//! stand-ins of document 01 put in. See compare/README.md.
+//! Writes lists of cases with the results of the published files, the stand-ins of
+//! document 01 put in. See compare/README.md.
 
 mod big;
 mod cases;
 mod check;
+mod chroma; // max_chroma and l_of, taken from the published file by compare/build
 #[allow(dead_code)]
 mod color; // the published file, patched by compare/build
+mod gamut;
+mod gamut_lists;
 mod lists;
 mod palette; // the white point, taken from the published file by compare/build
 #[allow(dead_code)]
@@ -27,6 +30,12 @@ fn main() -> ExitCode {
             (Ok(seed), Ok(count)) => lists::many(&mut out, seed, count),
             _ => return usage(),
         },
+        ["gamut-list"] => gamut_lists::fixed(&mut out),
+        ["gamut-all"] => gamut_lists::all(&mut out),
+        ["gamut-many", seed, count] => match (seed.parse(), count.parse()) {
+            (Ok(seed), Ok(count)) => gamut_lists::many(&mut out, seed, count),
+            _ => return usage(),
+        },
         ["tables"] => tables(&mut out),
         ["check"] => check::all(&mut out),
         _ => return usage(),
@@ -43,6 +52,7 @@ fn main() -> ExitCode {
 /// Says how the driver is called.
 fn usage() -> ExitCode {
     eprintln!("usage: driver list | many SEED COUNT | tables | check");
+    eprintln!("       driver gamut-list | gamut-all | gamut-many SEED COUNT");
     ExitCode::from(2)
 }
 

@@ -6,10 +6,16 @@ use std::sync::OnceLock;
 
 /// Refusal: a slice of directions is not 720 long, or a component is not in -1 to 1.
 pub const BAD_DIRECTIONS: u32 = 9;
+/// Refusal: a row to fill is not 720 long.
+pub const BAD_ROW: u32 = 10;
+/// Refusal: a level index is above 168.
+pub const BAD_LEVEL: u32 = 11;
 /// Refusal: a root's or a hue's operand lies outside its limits.
 pub const BAD_NUMBER: u32 = 16;
 /// How many directions there are, half a degree apart.
 pub const DIRECTIONS: usize = 720;
+/// How many levels a table has.
+pub const LEVELS: usize = 169;
 
 /// Splits a finite f32 without sign into a whole number and its power of two.
 pub fn parts(bits: u32) -> (u32, i32) {
@@ -146,11 +152,16 @@ pub fn encode(v: f32) -> u8 {
     tables().thresholds.iter().filter(|t| **t <= v).count() as u8
 }
 
-/// The hue of a and b in degrees, found among the lent directions.
-pub fn hue(a: f32, b: f32, cos: &[f32], sin: &[f32]) -> Result<f32, u32> {
+/// Whether two slices are taken as the cosines and sines of all directions.
+pub fn takes_directions(cos: &[f32], sin: &[f32]) -> bool {
     let within = |v: &f32| (-1.0..=1.0).contains(v);
     let long = cos.len() == DIRECTIONS && sin.len() == DIRECTIONS;
-    if !long || !cos.iter().chain(sin).all(within) {
+    long && cos.iter().chain(sin).all(within)
+}
+
+/// The hue of a and b in degrees, found among the lent directions.
+pub fn hue(a: f32, b: f32, cos: &[f32], sin: &[f32]) -> Result<f32, u32> {
+    if !takes_directions(cos, sin) {
         return Err(BAD_DIRECTIONS);
     }
     if !(a.abs() <= 1000.0 && b.abs() <= 1000.0) {
