@@ -1,3 +1,4 @@
 pub mod Directions
 pub mod Every
 pub mod Floats
+pub mod HueCount

@@ -1,0 +1,9 @@
+pub mod Earliest
+pub mod Chain
+pub mod Sorted
+pub mod Laws
+pub mod Cases
+pub mod Table
+pub mod Placing
+pub mod First
+pub mod Checking

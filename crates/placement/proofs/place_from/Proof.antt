@@ -1,0 +1,220 @@
+-- `placement::place_from` meets its contract. The invariant: what is stored so far, with the rest of the definition from cur on, is the whole. Assumes nothing.
+use mathlib.Core.Path.{_≡_, refl, sym, ap, _∙_, subst}
+use mathlib.Core.Logic.{inl}
+use mathlib.Core.Bool.{true, false}
+use mathlib.Core.List.{[]}
+use Prim.Native.Nat.{ℕ, suc, _+_, _-_, _%_, _≤_, _<_, min}
+use native.Mathlib.Nat.{mod-eq-of-lt, zero-add}
+use native.Mathlib.Omega.{arith}
+use lib.Ieee.{le, nan}
+use lib.ListN.{length, getD, set, replicate, length-set}
+use borrow.Author.Needs.{needs}
+use borrow.Author.Tests.{not-true, not-false}
+use Rattle.placement.specs.declared.Placement.{Placement}
+use Rattle.placement.specs.Ring.{Places, nowhere, placed, before, onward, fromStart, reduced}
+use Rattle.placement.specs.Placing.{allowedAt, sixteen}
+use Rattle.placement.specs.Inner.{Asked, Stands, Filled, Gives}
+use Rattle.placement.proofs.Earliest.{from}
+use Rattle.placement.proofs.Table.{allowed-there}
+use Rattle.placement.proofs.Placing.{stored, sixteen-stored, store-one, store-none, too-late, none-left, one-on, closed, open-end, at-start, not-there, gives, gives-none}
+use Rattle.placement.proofs.place_from.Statement.{statement}
+use Rattle.placement.proofs.place_from.Tie as tie
+
+abbrev Inv-loop : tie.InvT-loop
+Inv-loop m c next k step start n stop hues₀ cur₀ at₀ hues cur at =
+    (1 ≤ at) × (at ≤ k) × (start ≤ cur) × (cur < stop) × (length hues ≡ 16)
+    × (stored n hues at (onward (allowedAt m c) step stop (k - at) cur) ≡ stored n (replicate 16 0) 0 (fromStart (allowedAt m c) n k step start))
+
+abbrev μ-loop : tie.MeasureT-loop
+μ-loop m c next k step start n stop hues₀ cur₀ at₀ hues cur at = k - at
+
+-- the numbers of a turn are small
+sizes : (l : tie.At-loop Inv-loop μ-loop) → (l .before .before .before .before .before .args .start < length (l .before .before .before .before .before .args .m .now)) × (l .before .before .before .before .before .args .step ≤ length (l .before .before .before .before .before .args .m .now)) × (length (l .before .before .before .before .before .args .m .now) ≤ 720) × (l .loop .cur < l .before .before .before .before .before .args .start + length (l .before .before .before .before .before .args .m .now)) × (l .before .before .before .before .before .args .start ≤ l .loop .cur)
+sizes l = let s = l .before .before .before .before .before in (s .pre .1 .1, s .pre .0 .within, s .pre .0 .short, l .loop .inv .3, l .loop .inv .2)
+
+-- where the rest of the definition gives none, the whole does
+ended : (l : tie.At-loop Inv-loop μ-loop) (r : Placement) → (let s = l .before .before .before .before .before in onward (allowedAt (s .args .m .now) (s .args .c)) (s .args .step) (s .args .start + length (s .args .m .now)) (s .args .k - l .loop .at) (l .loop .cur)) ≡ nowhere → Gives r nowhere
+    → (let s = l .before .before .before .before .before in Gives r (reduced (length (s .args .m .now)) (fromStart (allowedAt (s .args .m .now) (s .args .c)) (length (s .args .m .now)) (s .args .k) (s .args .step) (s .args .start))))
+ended l r e g =
+    let s = l .before .before .before .before .before in
+    let n = length (s .args .m .now) in
+    gives-none r _ (sixteen-stored n (fromStart (allowedAt (s .args .m .now) (s .args .c)) n (s .args .k) (s .args .step) (s .args .start)) ∙ sym (l .loop .inv .5) ∙ ap (λ (p : Places). stored n (l .loop .hues) (l .loop .at) p) e) g
+
+mul-if1 : tie.Need-mul-if1 Inv-loop μ-loop
+mul-if1 c = let h = c .before .before .pre .1 .1 in let k = c .before .before .pre .0 .short in omega arith
+
+shared-slice-read-if1 : tie.Need-shared-slice-read-if1 Inv-loop μ-loop
+shared-slice-read-if1 c = c .before .before .before .pre .1 .1
+
+nowhere-requires : tie.Need-nowhere-requires Inv-loop μ-loop
+nowhere-requires c κs = search needs
+
+returns : tie.Need-returns Inv-loop μ-loop
+returns c =
+    let t = c .before in
+    let s = t .before .before .before .before in
+    let row = s .args .m .now in
+    let a = allowed-there row (s .args .c) 0 (s .args .start) (inl refl) (s .pre .1 .1) in
+    let f : allowedAt row (s .args .c) (s .args .start) ≡ false = ap (allowedAt row (s .args .c)) (sym (zero-add (s .args .start))) ∙ a ∙ not-true _ (t .if1 .taken) in
+    gives-none _ _ (ap (λ (p : Places). sixteen (reduced (length row) p)) (not-there (allowedAt row (s .args .c)) (length row) (s .args .k) (s .args .step) (s .args .start) f)) (c .nowhere .ensures)
+
+add-stop : tie.Need-add-stop Inv-loop μ-loop
+add-stop c = let s = c .before .before .before .before in let h = s .pre .1 .1 in let k = s .pre .0 .short in omega arith
+
+cast-hues : tie.Need-cast-hues Inv-loop μ-loop
+cast-hues c = let s = c .before .before .before .before in let h = s .pre .1 .1 in let k = s .pre .0 .short in omega arith
+
+array-write-hues : tie.Need-array-write-hues Inv-loop μ-loop
+array-write-hues c = search needs
+
+loop-holds : tie.Need-loop-holds Inv-loop μ-loop
+loop-holds c =
+    let s = c .before .before .before .before in
+    let row = s .args .m .now in
+    let u : s .args .start < length row = s .pre .1 .1 in
+    let k : 1 ≤ s .args .k = s .pre .0 .some-hue in
+    let a = allowed-there row (s .args .c) 0 (s .args .start) (inl refl) u in
+    let t : allowedAt row (s .args .c) (s .args .start) ≡ true = ap (allowedAt row (s .args .c)) (sym (zero-add (s .args .start))) ∙ a ∙ not-false _ (c .if1 .left) in
+    let e : s .args .start % length row ≡ s .args .start = mod-eq-of-lt u in (
+      omega arith,
+      k,
+      omega arith,
+      omega arith,
+      refl,
+      sym (ap (λ (p : Places). stored (length row) (replicate 16 0) 0 p) (at-start (allowedAt row (s .args .c)) (length row) (s .args .k) (s .args .step) (s .args .start) t) ∙ store-one (length row) (replicate 16 0) 0 (s .args .start) (onward (allowedAt row (s .args .c)) (s .args .step) (s .args .start + length row) (s .args .k - 1) (s .args .start)) ∙ ap (λ (x : ℕ). stored (length row) (set (replicate 16 0) 0 x) 1 (onward (allowedAt row (s .args .c)) (s .args .step) (s .args .start + length row) (s .args .k - 1) (s .args .start))) e),
+    )
+
+add-from : tie.Need-add-from Inv-loop μ-loop
+add-from c = let w = sizes (c .before) in omega arith
+
+nowhere-requires-2 : tie.Need-nowhere-requires-2 Inv-loop μ-loop
+nowhere-requires-2 c κs = search needs
+
+returns-2 : tie.Need-returns-2 Inv-loop μ-loop
+returns-2 c =
+    let t = c .before in
+    let l = t .before .before in
+    let n = l .before .before .before .before .before in
+    let h = t .before .loop-test .taken in
+    let e : n .args .k - l .loop .at ≡ suc (n .args .k - (l .loop .at + 1)) = omega arith in
+    let late = too-late (allowedAt (n .args .m .now) (n .args .c)) (n .args .step) (n .args .start + length (n .args .m .now)) (n .args .k - (l .loop .at + 1)) (l .loop .cur) (t .if2 .taken) in
+    ended l (c .nowhere2 .result) (ap (λ (x : ℕ). onward (allowedAt (n .args .m .now) (n .args .c)) (n .args .step) (n .args .start + length (n .args .m .now)) x (l .loop .cur)) e ∙ late) (c .nowhere2 .ensures)
+
+mul-j : tie.Need-mul-j Inv-loop μ-loop
+mul-j c = let w = sizes (c .before .before) in let h = c .if2 .left in omega arith
+
+shared-slice-read-j : tie.Need-shared-slice-read-j Inv-loop μ-loop
+shared-slice-read-j c = let w = sizes (c .before .before .before) in let h = c .before .if2 .left in let f = c .before .before .before .before .before .before .before .before .pre .1 .0 .long in omega arith
+
+cast-j : tie.Need-cast-j Inv-loop μ-loop
+cast-j c = let h = c .shared-slice-known4 .given (c .before .before .before .loop .cur + c .before .before .before .before .before .before .before .before .args .step) in omega (arith, h)
+
+nowhere-requires-3 : tie.Need-nowhere-requires-3 Inv-loop μ-loop
+nowhere-requires-3 c κs = search needs
+
+returns-3 : tie.Need-returns-3 Inv-loop μ-loop
+returns-3 c =
+    let t = c .before in
+    let two = t .before .before in
+    let l = two .before .before in
+    let n = l .before .before .before .before .before in
+    let h = two .before .loop-test .taken in
+    let w = sizes l in
+    let g = two .if2 .left in
+    let row = n .args .m .now in
+    let stop = n .args .start + length row in
+    let cur = l .loop .cur in
+    let e : n .args .k - l .loop .at ≡ suc (n .args .k - (l .loop .at + 1)) = omega arith in
+    let st = n .pre .1 .0 .at (cur + n .args .step) (omega arith) (omega arith) in
+    let none = none-left (allowedAt row (n .args .c)) (n .args .step) stop (n .args .k - (l .loop .at + 1)) cur _ (length row + length row) (omega arith) (omega arith) st (t .if3 .taken) in
+    ended l (c .nowhere3 .result) (ap (λ (x : ℕ). onward (allowedAt row (n .args .c)) (n .args .step) stop x cur) e ∙ none) (c .nowhere3 .ensures)
+
+reduce-requires : tie.Need-reduce-requires Inv-loop μ-loop
+reduce-requires c κs =
+    let l = c .before .before .before .before in
+    let w = sizes l in
+    let g = c .if3 .left in
+    (omega arith, w .2)
+
+mul-hues : tie.Need-mul-hues Inv-loop μ-loop
+mul-hues c = let h = c .before .before .before .before .loop-test .taken in let k = c .before .before .before .before .before .before .before .before .before .before .pre .0 .few-hues in omega arith
+
+array-write-hues-2 : tie.Need-array-write-hues-2 Inv-loop μ-loop
+array-write-hues-2 c = let h = c .before .before .before .before .loop-test .taken in let k = c .before .before .before .before .before .before .before .before .before .before .pre .0 .few-hues in omega arith
+
+add-at : tie.Need-add-at Inv-loop μ-loop
+add-at c = let h = c .before .before .before .before .loop-test .taken in let k = c .before .before .before .before .before .before .before .before .before .before .pre .0 .few-hues in omega arith
+
+loop-less : tie.Need-loop-less Inv-loop μ-loop
+loop-less c = let h = c .before .before .before .before .loop-test .taken in omega arith
+
+loop-again : tie.Need-loop-again Inv-loop μ-loop
+loop-again c =
+    let three = c .before in
+    let two = three .before .before in
+    let l = two .before .before in
+    let n = l .before .before .before .before .before in
+    let h = two .before .loop-test .taken in
+    let w = sizes l in
+    let g = two .if2 .left in
+    let row = n .args .m .now in
+    let ok = allowedAt row (n .args .c) in
+    let stop = n .args .start + length row in
+    let cur = l .loop .cur in
+    let at = l .loop .at in
+    let hues = l .loop .hues in
+    let j = getD (n .args .next .now) (cur + n .args .step) 0 in
+    let u : j < stop = three .if3 .left in
+    let e : n .args .k - at ≡ suc (n .args .k - (at + 1)) = omega arith in
+    let st = n .pre .1 .0 .at (cur + n .args .step) (omega arith) (omega arith) in
+    let far : cur + n .args .step ≤ j = let b = from ok (length row + length row - (cur + n .args .step)) (cur + n .args .step) in omega arith in
+    let on = one-on ok (n .args .step) stop (n .args .k - (at + 1)) cur j (length row + length row) (omega arith) (omega arith) st u in
+    let x : at + 1 ≡ suc at = omega arith in (
+      omega arith,
+      omega arith,
+      omega arith,
+      u,
+      length-set hues at (c .reduce .result) ∙ l .loop .inv .4,
+      rw (c .reduce .ensures, x)
+          (sym (store-one (length row) hues at j (onward ok (n .args .step) stop (n .args .k - suc at) j))
+          ∙ ap (λ (p : Places). stored (length row) hues at p) (sym (ap (λ (y : ℕ). onward ok (n .args .step) stop y cur) e ∙ on ∙ ap (λ (y : ℕ). before j (onward ok (n .args .step) stop (n .args .k - y) j)) x))
+          ∙ l .loop .inv .5),
+    )
+
+sub-if4 : tie.Need-sub-if4 Inv-loop μ-loop
+sub-if4 c = let h = c .before .loop .inv .3 in omega arith
+
+nowhere-requires-4 : tie.Need-nowhere-requires-4 Inv-loop μ-loop
+nowhere-requires-4 c κs = search needs
+
+returns-4 : tie.Need-returns-4 Inv-loop μ-loop
+returns-4 c =
+    let t = c .before in
+    let a = t .before in
+    let l = a .before in
+    let n = l .before .before .before .before .before in
+    let h = a .loop-test .left in
+    let v = l .loop .inv .1 in
+    let row = n .args .m .now in
+    let e : n .args .k - l .loop .at ≡ 0 = omega arith in
+    ended l (c .nowhere4 .result) (ap (λ (x : ℕ). onward (allowedAt row (n .args .c)) (n .args .step) (n .args .start + length row) x (l .loop .cur)) e ∙ open-end (allowedAt row (n .args .c)) (n .args .step) (n .args .start + length row) (l .loop .cur) (t .if4 .taken)) (c .nowhere4 .ensures)
+
+returns-5 : tie.Need-returns-5 Inv-loop μ-loop
+returns-5 c =
+    let a = c .before in
+    let l = a .before in
+    let n = l .before .before .before .before .before in
+    let h = a .loop-test .left in
+    let v = l .loop .inv .1 in
+    let row = n .args .m .now in
+    let ok = allowedAt row (n .args .c) in
+    let e : n .args .k - l .loop .at ≡ 0 = omega arith in
+    let end : onward ok (n .args .step) (n .args .start + length row) (n .args .k - l .loop .at) (l .loop .cur) ≡ placed [] = ap (λ (x : ℕ). onward ok (n .args .step) (n .args .start + length row) x (l .loop .cur)) e ∙ closed ok (n .args .step) (n .args .start + length row) (l .loop .cur) (c .if4 .left) in
+    gives (l .loop .hues) _
+    (sixteen-stored (length row) (fromStart ok (length row) (n .args .k) (n .args .step) (n .args .start))
+    ∙ sym (l .loop .inv .5) ∙ ap (λ (p : Places). stored (length row) (l .loop .hues) (l .loop .at) p) end ∙ store-none (length row) (l .loop .hues) (l .loop .at))
+
+pub place-from-spec : {M : Type 1} → statement M
+place-from-spec =
+    tie.close
+    (tie.spec Inv-loop μ-loop mul-if1 shared-slice-read-if1 nowhere-requires returns add-stop cast-hues array-write-hues loop-holds add-from nowhere-requires-2 returns-2 mul-j shared-slice-read-j cast-j nowhere-requires-3 returns-3 reduce-requires mul-hues array-write-hues-2 add-at loop-less loop-again sub-if4 nowhere-requires-4 returns-4 returns-5)

@@ -1,0 +1,5 @@
+pub mod Ring
+pub mod Spacing
+pub mod Placing
+pub mod Marked
+pub mod Inner

@@ -1,0 +1,214 @@
+// k hues on a ring, at a chroma: `feasible` and `place_from` of xtask/src/palette.rs, and the step for k.
+use limits::Refusal;
+ghost use mathlib.Core.Path.{_≡_};
+ghost use mathlib.Core.Bool.{_&&_};
+ghost use Prim.Native.Nat.{ℕ, _+_, _%_, _≤_, _<_};
+ghost use lib.Dec.{leb};
+ghost use lib.ListN.{length};
+ghost use Rattle.limits.specs.Answers.{value, refused};
+ghost use Rattle.placement.specs.Ring.{nowhere, reduced, fromStart, placement};
+ghost use Rattle.placement.specs.Placing.{allowedAt, checked, checkSaid, placementSays, huesBeside, answers, stepSaid, stepSays};
+ghost use Rattle.placement.specs.Inner.{Asked, Stands, Filled, LapAsked, Gives, isPlaced};
+
+// Whether the hues were placed.
+pub enum Answer {
+    // the first k of the hues beside it
+    Placed,
+    // no placement exists
+    Nowhere,
+    // refused by 1, 3, 4, 5, 7 or 8
+    Refused(Refusal),
+}
+
+// An answer with its sixteen hues, zeros after the first k, and all zero where nothing is placed.
+pub struct Placement {
+    pub answer: Answer,
+    pub hues: [u16; 16],
+}
+
+// The step for a hue count, or why there is none.
+pub enum Stepping {
+    // ceil(600 / k) + 1
+    Is(usize),
+    // refused by 1
+    Declined(Refusal),
+}
+
+// How far apart k hues must be, in half degrees.
+pub fn step_for(k: usize) -> Stepping
+    ensures { λ r. ⌜ stepSaid r ≡ stepSays k ⌝ }
+{
+    if limits::takes_hue_count(k) {
+        return Stepping::Is((600 + (k - 1)) / k + 1);
+    }
+    Stepping::Declined(Refusal::HueCount)
+}
+
+// Whether the arguments of a placement are taken.
+pub enum Checked {
+    // all of them
+    Fine,
+    // the first refusal that applies
+    Wrong(Refusal),
+}
+
+// Nothing is placed.
+fn nowhere() -> Placement
+    ensures { λ r. ⌜ Gives r nowhere ⌝ }
+{
+    Placement {
+        answer: Answer::Nowhere,
+        hues: [0u16; 16],
+    }
+}
+
+// Whether x is a number from 1 to most.
+fn between(x: usize, most: usize) -> bool
+    ensures { λ r. ⌜ r ≡ (leb 1 x && leb x most) ⌝ }
+{
+    1 <= x && x <= most
+}
+
+// The first refusal that applies to a placement, of 1, 3, 4, 5, 7 and 8.
+pub fn check(m: &[f32], c: f32, k: usize, step: usize, room: usize) -> Checked
+    ensures { λ r. ⌜ checkSaid r ≡ checked k step c (now (m .entry)) room (value tt) ⌝ }
+{
+    let n = m.len();
+    if !limits::takes_hue_count(k) {
+        return Checked::Wrong(Refusal::HueCount);
+    }
+    if !limits::takes_chroma(c) {
+        return Checked::Wrong(Refusal::Chroma);
+    }
+    if !between(n, 720) {
+        return Checked::Wrong(Refusal::RingLength);
+    }
+    if !between(step, n) {
+        return Checked::Wrong(Refusal::Spacing);
+    }
+    if !limits::takes_entries(m) {
+        return Checked::Wrong(Refusal::Entry);
+    }
+    if room < 3 * n {
+        return Checked::Wrong(Refusal::WorkBuffer);
+    }
+    Checked::Fine
+}
+
+// Fills one lap of the table of earliest allowed indices, from its top, by the earliest allowed index above it, 65535 if there
+// is none. The earliest allowed index from the lap's first on is handed back.
+fn fill_lap(m: &[f32], c: f32, base: usize, last: u16, work: &mut [u16]) -> u16
+    requires { ⌜ LapAsked (now m) c base last (now work) ⌝ }
+    ensures { λ r. ⌜ (Filled (now (m .entry)) c base (now (work .exit))) × (Stands (now (m .entry)) c base r) ⌝ }
+{
+    let mut seen = last;
+    let mut i = m.len();
+    while 0 < i {
+        i -= 1;
+        if c <= m[i] {
+            seen = (base + i) as u16;
+        }
+        work[base + i] = seen;
+    }
+    seen
+}
+
+// An index of the second lap brought down to the first.
+fn reduce(j: usize, n: usize) -> u16
+    requires { ⌜ (j < n + n) × (n ≤ 720) ⌝ }
+    ensures { λ r. ⌜ r ≡ j % n ⌝ }
+{
+    if j < n { j as u16 } else { (j - n) as u16 }
+}
+
+// k indices from a start, each the earliest allowed at least `step` further on, by the table of earliest allowed indices.
+fn place_from(m: &[f32], c: f32, next: &[u16], k: usize, step: usize, start: usize) -> Placement
+    requires { ⌜ Asked (now m) k step × (Filled (now m) c 0 (now next) × (start < length (now m))) ⌝ }
+    ensures { λ r. ⌜ Gives r (reduced (length (now (m .entry))) (fromStart (allowedAt (now (m .entry)) c) (length (now (m .entry))) k step start)) ⌝ }
+{
+    if !(c <= m[start]) {
+        return nowhere();
+    }
+    let n = m.len();
+    let stop = start + n;
+    let mut hues = [0u16; 16];
+    hues[0] = start as u16;
+    let mut cur = start;
+    let mut at: usize = 1;
+    while at < k {
+        let from = cur + step;
+        if stop <= from {
+            return nowhere();
+        }
+        let j = next[from] as usize;
+        if stop <= j {
+            return nowhere();
+        }
+        hues[at] = reduce(j, n);
+        cur = j;
+        at += 1;
+    }
+    if stop - cur < step {
+        return nowhere();
+    }
+    Placement {
+        answer: Answer::Placed,
+        hues,
+    }
+}
+
+// The first start that succeeds. A start from which k - 1 steps would reach past the ring's end is not tried.
+fn first_start(m: &[f32], c: f32, next: &[u16], k: usize, step: usize) -> Placement
+    requires { ⌜ Asked (now m) k step × Filled (now m) c 0 (now next) ⌝ }
+    ensures { λ r. ⌜ Gives r (placement (allowedAt (now (m .entry)) c) (length (now (m .entry))) k step) ⌝ }
+{
+    let reach = (k - 1) * step;
+    let mut s: usize = 0;
+    while s + reach < m.len() {
+        let found = place_from(m, c, next, k, step, s);
+        let answer = found.answer;
+        if is_placed(answer) {
+            return found;
+        }
+        s += 1;
+    }
+    nowhere()
+}
+
+// Whether an answer is a placement.
+fn is_placed(answer: Answer) -> bool
+    ensures { λ r. ⌜ r ≡ isPlaced answer ⌝ }
+{
+    match answer {
+        Answer::Placed => true,
+        Answer::Nowhere => false,
+        Answer::Refused(_) => false,
+    }
+}
+
+// The placement on a ring whose arguments are taken.
+fn place(m: &[f32], c: f32, k: usize, step: usize, work: &mut [u16]) -> Placement
+    requires { ⌜ Asked (now m) k step × (length (now m) + length (now m) ≤ length (now work)) ⌝ }
+    ensures { λ r. ⌜ Gives r (placement (allowedAt (now (m .entry)) c) (length (now (m .entry))) k step) ⌝ }
+{
+    let n = m.len();
+    let last = fill_lap(m, c, n, 65535, work);
+    fill_lap(m, c, 0, last, work);
+    first_start(m, c, work, k, step)
+}
+
+// k hues at least `step` apart all round a ring, each with an entry of at least c: the first placement, or none. The work
+// buffer's content is left free where the call is accepted, and does not matter.
+pub fn feasible(m: &[f32], c: f32, k: usize, step: usize, work: &mut [u16]) -> Placement
+    ensures { λ r. ⌜ (answers (r .answer) (r .hues) ≡ placementSays k step c (now (m .entry)) (length (now (work .entry)))) × (r .hues ≡ huesBeside (placementSays k step c (now (m .entry)) (length (now (work .entry))))) ⌝ }
+    ensures { λ r. ⌜ ((w : ℕ) → placementSays k step c (now (m .entry)) (length (now (work .entry))) ≡ refused w → now (work .exit) ≡ now (work .entry)) ⌝ }
+{
+    let checked = check(m, c, k, step, work.len());
+    match checked {
+        Checked::Wrong(why) => Placement {
+            answer: Answer::Refused(why),
+            hues: [0u16; 16],
+        },
+        Checked::Fine => place(m, c, k, step, work),
+    }
+}
