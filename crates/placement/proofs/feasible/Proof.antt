@@ -1,3 +1,4 @@
+-- `placement::feasible` meets its contract: the check says what is refused, and `place` the rest. Assumes nothing.
 use mathlib.Core.Path.{_≡_, refl, sym, ap, _∙_}
 use native.Mathlib.Omega.{arith}
 use borrow.Author.Needs.{needs}
@@ -12,38 +13,34 @@ use Rattle.placement.proofs.feasible.Lts as lts
 use Rattle.placement.proofs.check.Reads as check-reads
 use Rattle.placement.proofs.place.Reads as place-reads
 
--- src/lib.rt:207:9
 check-requires : tie.Need-check-requires
 check-requires c κs = search needs
 
--- src/lib.rt:209:24
 enum-known-checked : tie.Need-enum-known-checked
 enum-known-checked c = search needs
 
--- src/lib.rt:213:47
 enum-told : tie.Need-enum-told
 enum-told c = search needs
 
--- src/lib.rt:213:26
 place-requires : tie.Need-place-requires
 place-requires c κs =
-    let a = asked (c .before .before .before .before .before .before .args .k) (c .before .before .before .before .before .before .args .step) (c .before .before .before .before .before .before .args .c) (now (c .before .before .before .before .before .before .args .m)) (length (now (c .before .before .before .before .before .before .args .work))) (passed (c .before .before .before .before .before .before .args .k) (c .before .before .before .before .before .before .args .step) (c .before .before .before .before .before .before .args .c) (now (c .before .before .before .before .before .before .args .m)) (length (now (c .before .before .before .before .before .before .args .work))) (c .before .before .before .check .result) (c .before .enum-told .given .1) (c .before .before .before .check .ensures)) in
-    (a .0, omega (arith, a .1))
+    let a = c .before .before .before .before .before .before .args in
+    let fine = asked (a .k) (a .step) (a .c) (now (a .m)) (length (now (a .work))) (passed (a .k) (a .step) (a .c) (now (a .m)) (length (now (a .work))) (c .before .before .before .check .result) (c .before .enum-told .given .1) (c .before .before .before .check .ensures)) in
+    (fine .0, omega (arith, fine .1))
 
--- src/lib.rt:203:1
 returns : tie.Need-returns
 returns c =
-    let e = refusing (c .before .before .before .before .before .before .args .k) (c .before .before .before .before .before .before .args .step) (c .before .before .before .before .before .before .args .c) (now (c .before .before .before .before .before .before .args .m)) (length (now (c .before .before .before .before .before .before .args .work))) (c .before .before .before .check .result) (c .before .checked .given .0 .0) (c .before .checked .given .1) (c .before .before .before .check .ensures) in
+    let a = c .before .before .before .before .before .before .args in
+    let e = refusing (a .k) (a .step) (a .c) (now (a .m)) (length (now (a .work))) (c .before .before .before .check .result) (c .before .checked .given .0 .0) (c .before .checked .given .1) (c .before .before .before .check .ensures) in
     ((sym e, sym (ap huesBeside e)), λ w again. refl)
 
--- src/lib.rt:203:1
 same-length : tie.Need-same-length
 same-length c = search needs
 
--- src/lib.rt:203:1
 returns-2 : tie.Need-returns-2
 returns-2 c =
-    let e = placing (c .before .before .before .before .before .before .before .before .before .args .k) (c .before .before .before .before .before .before .before .before .before .args .step) (c .before .before .before .before .before .before .before .before .before .args .c) (now (c .before .before .before .before .before .before .before .before .before .args .m)) (length (now (c .before .before .before .before .before .before .before .before .before .args .work))) (c .before .before .before .before .before .before .check .result) (c .before .before .before .before .enum-told .given .1) (c .before .before .before .before .before .before .check .ensures) in
+    let a = c .before .before .before .before .before .before .before .before .before .args in
+    let e = placing (a .k) (a .step) (a .c) (now (a .m)) (length (now (a .work))) (c .before .before .before .before .before .before .check .result) (c .before .before .before .before .enum-told .given .1) (c .before .before .before .before .before .before .check .ensures) in
     let given = c .before .before .place .ensures in
     ((given .says ∙ sym e, given .beside ∙ sym (ap huesBeside e)), λ w again. said-twice e again)
 
