@@ -1,21 +1,26 @@
-//! Times the filling of a whole gamut table by our archive and by the published Rust, in
-//! turns. See compare/README.md.
+//! Times the filling of a whole gamut table, and placements on rings of it, by our archive
+//! and by the published Rust, in turns. See compare/README.md.
 
 mod big;
 mod chroma; // max_chroma and l_of, taken from the published file by compare/build
 #[allow(dead_code)]
 mod color; // the published file, patched by compare/build
 mod palette; // the white point, taken from the published file by compare/build
+mod placing; // feasible, place_from and the step, taken from the published file by compare/build
 #[allow(dead_code)]
 mod standins;
 
 use standins::{BAD_DIRECTIONS, BAD_LEVEL, BAD_ROW, DIRECTIONS, LEVELS};
 use std::time::Instant;
 
-/// How many times each side fills its table.
+/// How many times each side fills its table, and makes all placements.
 const TURNS: usize = 41;
+/// What each hue is before a placement.
+const BEFORE: u16 = 4711;
+/// What our archive gives where there is no placement.
+const NONE: u32 = 255;
 
-extern "C" {
+unsafe extern "C" {
     /// The function of crates/exports: a slice is its address, then its length.
     fn tengcuvo_fill_row(
         level: usize,
@@ -25,6 +30,17 @@ extern "C" {
         sines: usize,
         row: *mut f32,
         entries: usize,
+    ) -> u32;
+    /// The same, with sixteen hues to write.
+    fn tengcuvo_place(
+        m: *const f32,
+        entries: usize,
+        c: f32,
+        k: usize,
+        step: usize,
+        work: *mut u16,
+        room: usize,
+        hues: *mut [u16; 16],
     ) -> u32;
 }
 
@@ -79,14 +95,6 @@ fn theirs(cos: &[f32], sin: &[f32], table: &mut [f32]) {
     }
 }
 
-/// How long one filling takes, in milliseconds; the table holds nothing of an earlier one.
-fn time(fill: fn(&[f32], &[f32], &mut [f32]), cos: &[f32], sin: &[f32], table: &mut [f32]) -> f64 {
-    table.fill(f32::NAN);
-    let start = Instant::now();
-    fill(cos, sin, table);
-    start.elapsed().as_secs_f64() * 1e3
-}
-
 /// The least, the middle and the greatest of some numbers.
 fn spread(mut numbers: Vec<f64>) -> [f64; 3] {
     numbers.sort_by(f64::total_cmp);
@@ -100,27 +108,170 @@ fn summary(name: &str, times: &[f64]) -> f64 {
     least
 }
 
-/// Tries the refusals, fills both tables in turns, compares them, and writes the times.
-fn main() {
-    let (cos, sin) = standins::directions();
-    refusals(&cos, &sin);
-    let mut tables = [(); 2].map(|()| vec![0f32; LEVELS * DIRECTIONS]);
+/// Has two sides work in turns, and writes the times of both and their ratio.
+fn compare(what: &str, sides: [&mut dyn FnMut(); 2]) {
     let mut times = [vec![], vec![]];
     for turn in 0..2 * TURNS {
         // Two turns are a pair; whoever went second in one goes first in the next.
         let side = (turn + 1) / 2 % 2;
-        let fill = [ours, theirs][side];
-        times[side].push(time(fill, &cos, &sin, &mut tables[side]));
+        let start = Instant::now();
+        sides[side]();
+        times[side].push(start.elapsed().as_secs_f64() * 1e3);
     }
-    let bits = |table: &[f32]| table.iter().map(|v| v.to_bits()).collect::<Vec<_>>();
-    assert!(bits(&tables[0]) == bits(&tables[1]), "the tables differ");
-    println!(
-        "{LEVELS} x {DIRECTIONS} entries, {TURNS} fillings each, both tables equal bit for bit"
-    );
+    println!("{what}, {TURNS} times each");
     let least = summary("ours    ", &times[0]) / summary("the Rust", &times[1]);
     let pairs = times[0].iter().zip(&times[1]);
     let [_, middle, _] = spread(pairs.map(|(ours, theirs)| ours / theirs).collect());
     println!(
         "ours / the Rust: {least:.3} of the least times, {middle:.3} in the middle of all pairs"
     );
+}
+
+/// Fills both tables, compares them, and gives one.
+fn tables(cos: &[f32], sin: &[f32]) -> Vec<f32> {
+    let mut tables = [(); 2].map(|()| vec![0f32; LEVELS * DIRECTIONS]);
+    let [one, other] = &mut tables;
+    compare(
+        &format!("{LEVELS} x {DIRECTIONS} entries filled"),
+        [
+            &mut || {
+                one.fill(f32::NAN);
+                ours(cos, sin, one);
+            },
+            &mut || {
+                other.fill(f32::NAN);
+                theirs(cos, sin, other);
+            },
+        ],
+    );
+    let bits = |table: &[f32]| table.iter().map(|v| v.to_bits()).collect::<Vec<_>>();
+    assert!(bits(&tables[0]) == bits(&tables[1]), "the tables differ");
+    println!("both tables are equal bit for bit");
+    tables.into_iter().next().expect("two tables")
+}
+
+/// A placement to be made: on which ring, of how many hues, how far apart, at which chroma.
+struct Asked {
+    ring: usize,
+    k: usize,
+    step: usize,
+    c: f32,
+}
+
+/// Rings of a table, each the lesser of two rows.
+fn rings(table: &[f32]) -> Vec<Vec<f32>> {
+    let row = |level: usize| &table[level * DIRECTIONS..][..DIRECTIONS];
+    let lesser = |(a, b): (&f32, &f32)| a.min(*b);
+    let pairs = (0..80).step_by(4).map(|dark| (dark, dark + 82));
+    pairs
+        .map(|(dark, light)| row(dark).iter().zip(row(light)).map(lesser).collect())
+        .collect()
+}
+
+/// What is asked of each ring: every hue count with its step, at chromas up to the greatest.
+fn questions(rings: &[Vec<f32>]) -> Vec<Asked> {
+    let mut asked = vec![];
+    for (ring, entries) in rings.iter().enumerate() {
+        let most = entries.iter().copied().fold(0.0, f32::max);
+        for k in 1..=16 {
+            for part in 0..16 {
+                let c = most * (part as f32 / 16.0);
+                let step = placing::step(k);
+                asked.push(Asked { ring, k, step, c });
+            }
+        }
+    }
+    asked
+}
+
+/// Makes a placement by our archive, and gives its number with the hues.
+fn place(m: &[f32], asked: &Asked, work: &mut [u16]) -> (u32, [u16; 16]) {
+    let mut hues = [BEFORE; 16];
+    let (address, room) = (work.as_mut_ptr(), work.len());
+    // What is lent lives through the call, and nothing of it is lent twice.
+    let number = unsafe {
+        tengcuvo_place(
+            m.as_ptr(),
+            m.len(),
+            asked.c,
+            asked.k,
+            asked.step,
+            address,
+            room,
+            &mut hues,
+        )
+    };
+    (number, hues)
+}
+
+/// Checks that our archive refuses what it must, with hues and work buffer then as before.
+fn placement_refusals() {
+    let ring = [40.0; 8];
+    for (number, length, k, step, c, room) in [
+        (1, 8, 0, 2, 40.0, 24),
+        (1, 8, 17, 2, 40.0, 24),
+        (3, 8, 2, 2, f32::NAN, 24),
+        (4, 0, 2, 2, 40.0, 24),
+        (5, 8, 2, 9, 40.0, 24),
+        (5, 8, 2, usize::MAX, 40.0, 24),
+        (8, 8, 2, 2, 40.0, 23),
+    ] {
+        let asked = Asked {
+            ring: 0,
+            k,
+            step,
+            c,
+        };
+        let mut work = vec![BEFORE; room];
+        let given = place(&ring[..length], &asked, &mut work);
+        assert!(given == (number, [BEFORE; 16]), "not refused by {number}");
+        assert!(
+            work.iter().all(|v| *v == BEFORE),
+            "a refused buffer is changed"
+        );
+    }
+}
+
+/// Makes all placements by both sides, and compares them.
+fn placements(table: &[f32]) {
+    let rings = rings(table);
+    let asked = questions(&rings);
+    let mut work = vec![0; 3 * DIRECTIONS];
+    let (mut one, mut other) = (vec![], vec![]);
+    compare(
+        &format!("{} placements on {} rings", asked.len(), rings.len()),
+        [
+            &mut || {
+                let made = asked.iter().map(|a| place(&rings[a.ring], a, &mut work));
+                one = made.collect();
+            },
+            &mut || {
+                let made = asked
+                    .iter()
+                    .map(|a| placing::feasible(&rings[a.ring], DIRECTIONS, a.k, a.step, a.c));
+                other = made.collect();
+            },
+        ],
+    );
+    let placed = other.iter().flatten().count();
+    for ((number, hues), theirs) in one.iter().zip(&other) {
+        let mut expected = (NONE, [0; 16]);
+        if let Some(theirs) = theirs {
+            expected.0 = 0;
+            theirs
+                .iter()
+                .zip(&mut expected.1)
+                .for_each(|(h, to)| *to = *h as u16);
+        }
+        assert!((*number, *hues) == expected, "a placement differs");
+    }
+    println!("all placements are equal, {placed} of them with hues");
+}
+
+/// Tries the refusals, then times both parts.
+fn main() {
+    let (cos, sin) = standins::directions();
+    refusals(&cos, &sin);
+    placement_refusals();
+    placements(&tables(&cos, &sin));
 }

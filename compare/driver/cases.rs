@@ -66,6 +66,43 @@ fn answer(operation: &str, input: &[u32], cos: &[f32], sin: &[f32]) -> Vec<u32> 
     }
 }
 
+/// Writes the head of a list of cases of this kind, over this published file with this of
+/// document 01, made by this command.
+pub fn head(
+    out: &mut dyn Write,
+    kind: &str,
+    source: &str,
+    with: &str,
+    command: &str,
+) -> io::Result<()> {
+    writeln!(
+        out,
+        "# {kind} cases, one a line: operation, inputs, outputs, in hexadecimal."
+    )?;
+    writeln!(
+        out,
+        "# A float is its 32 bits, every NaN 7fc00000. See compare/README.md."
+    )?;
+    writeln!(
+        out,
+        "# Made by: compare/build && target/compare/driver {command}"
+    )?;
+    writeln!(out, "# The outputs are those of {source} of the repository")?;
+    writeln!(
+        out,
+        "# TheRincon/lcr-codes 7e9e1755be with {with} of document 01."
+    )
+}
+
+/// Writes one line.
+pub fn line(out: &mut dyn Write, operation: &str, words: &[u32]) -> io::Result<()> {
+    write!(out, "{operation}")?;
+    for word in words {
+        write!(out, " {word:x}")?;
+    }
+    writeln!(out)
+}
+
 /// A list being written.
 pub struct List<'a> {
     out: &'a mut dyn Write,
@@ -82,23 +119,7 @@ impl List<'_> {
         source: &str,
         command: &str,
     ) -> io::Result<List<'a>> {
-        writeln!(
-            out,
-            "# {kind} cases, one a line: operation, inputs, outputs, in hexadecimal."
-        )?;
-        writeln!(
-            out,
-            "# A float is its 32 bits, every NaN 7fc00000. See compare/README.md."
-        )?;
-        writeln!(
-            out,
-            "# Made by: compare/build && target/compare/driver {command}"
-        )?;
-        writeln!(out, "# The outputs are those of {source} of the repository")?;
-        writeln!(
-            out,
-            "# TheRincon/lcr-codes 7e9e1755be with the stand-ins of document 01."
-        )?;
+        head(out, kind, source, "the stand-ins", command)?;
         let (cos, sin) = standins::directions();
         let mut list = List { out, cos, sin };
         for j in 0..standins::DIRECTIONS {
@@ -116,11 +137,7 @@ impl List<'_> {
 
     /// Writes one line.
     pub fn line(&mut self, operation: &str, words: &[u32]) -> io::Result<()> {
-        write!(self.out, "{operation}")?;
-        for word in words {
-            write!(self.out, " {word:x}")?;
-        }
-        writeln!(self.out)
+        line(self.out, operation, words)
     }
 
     /// Writes one case of an operation over floats.

@@ -33,9 +33,8 @@ fn fill_row(level: u32, cos: &[f32], sin: &[f32], row: &mut [f32]) -> u32 {
     0
 }
 
-/// The digest of a row: FNV-1a with 64 bits over the bytes of its patterns, lowest first.
-fn digest(row: &[f32]) -> u64 {
-    let bytes = row.iter().flat_map(|entry| entry.to_bits().to_le_bytes());
+/// The digest of bytes: FNV-1a with 64 bits.
+pub fn digest(bytes: impl Iterator<Item = u8>) -> u64 {
     bytes.fold(0xcbf2_9ce4_8422_2325, |digest, byte| {
         (digest ^ u64::from(byte)).wrapping_mul(0x100_0000_01b3)
     })
@@ -71,7 +70,7 @@ impl List<'_> {
         if let Some((which, j, v)) = kept {
             self.component(which, j, v);
         }
-        let digest = digest(&row);
+        let digest = digest(row.iter().flat_map(|entry| entry.to_bits().to_le_bytes()));
         let words = [level, number, (digest >> 32) as u32, digest as u32];
         self.line("row", &words)
     }

@@ -11,6 +11,9 @@ mod gamut;
 mod gamut_lists;
 mod lists;
 mod palette; // the white point, taken from the published file by compare/build
+mod placement;
+mod placement_lists;
+mod placing; // feasible, place_from and the step, taken from the published file by compare/build
 #[allow(dead_code)]
 mod published; // the published file as it is, for `check`
 mod random;
@@ -36,6 +39,12 @@ fn main() -> ExitCode {
             (Ok(seed), Ok(count)) => gamut_lists::many(&mut out, seed, count),
             _ => return usage(),
         },
+        ["placement-list"] => placement_lists::fixed(&mut out),
+        ["placement-all"] => placement_lists::all(&mut out),
+        ["placement-many", seed, count] => match (seed.parse(), count.parse()) {
+            (Ok(seed), Ok(count)) => placement_lists::many(&mut out, seed, count),
+            _ => return usage(),
+        },
         ["tables"] => tables(&mut out),
         ["check"] => check::all(&mut out),
         _ => return usage(),
@@ -53,6 +62,7 @@ fn main() -> ExitCode {
 fn usage() -> ExitCode {
     eprintln!("usage: driver list | many SEED COUNT | tables | check");
     eprintln!("       driver gamut-list | gamut-all | gamut-many SEED COUNT");
+    eprintln!("       driver placement-list | placement-all | placement-many SEED COUNT");
     ExitCode::from(2)
 }
 

@@ -1,8 +1,11 @@
 // A reader of case lists, and what the programs that replay such lists share.
 //
 // A list is text. A line that starts with `#` is a comment, and an empty line says nothing. Any other
-// line is a case: an operation of at most 8 lowercase letters and digits, then at most 8 words of at most
+// line is a case: an operation of at most 8 lowercase letters and digits, then at most 24 words of at most
 // 8 lowercase hexadecimal digits, with one space before each and a newline at the end.
+pub mod digest;
+pub mod directions;
+
 ghost use mathlib.Core.Path.{_≡_};
 ghost use Prim.Native.Nat.{_≤_};
 ghost use lib.Ieee.{binary32, nanBits, ofBits};
@@ -47,7 +50,7 @@ pub struct Line {
     pub operation: u64,
     pub letters: usize,
     // the words that are complete, and how many there are
-    pub words: [u32; 8],
+    pub words: [u32; 24],
     pub count: usize,
     // the word being read, and how many digits of it were read
     pub word: u32,
@@ -57,6 +60,23 @@ pub struct Line {
 // One more than n, or n where that is the greatest number.
 pub fn counted(n: u64) -> u64 {
     if n < u64::MAX { n + 1 } else { n }
+}
+
+// The place of an operation among names, or their number where it is none of them.
+pub fn place_of(names: &[u64], operation: u64) -> usize {
+    let mut i = 0;
+    while i < names.len() {
+        if names[i] == operation {
+            return i;
+        }
+        i += 1;
+    }
+    i
+}
+
+// A word as a place or a length.
+pub fn size_of(word: u32) -> usize {
+    word as usize
 }
 
 // Whether an operation may have this byte.
@@ -89,7 +109,7 @@ impl Line {
             ended: false,
             operation: 0,
             letters: 0,
-            words: [0u32; 8],
+            words: [0u32; 24],
             count: 0,
             word: 0,
             digits: 0,
@@ -139,7 +159,7 @@ impl Line {
         if self.digits == 0 {
             return self.at(Stage::Spoiled);
         }
-        if count < 8 {
+        if count < 24 {
             self.words[count] = self.word;
             self.count = count + 1;
             self.word = 0;

@@ -8,7 +8,7 @@ use color::Srgb8;
 use roots::Root;
 
 // The first three words as a colour by its floats.
-fn linear_of(words: [u32; 8]) -> Linear {
+fn linear_of(words: [u32; 24]) -> Linear {
     Linear {
         r: float_of(words[0]),
         g: float_of(words[1]),
@@ -17,7 +17,7 @@ fn linear_of(words: [u32; 8]) -> Linear {
 }
 
 // The first three words as a Lab colour.
-fn lab_of(words: [u32; 8]) -> Lab {
+fn lab_of(words: [u32; 24]) -> Lab {
     Lab {
         l: float_of(words[0]),
         a: float_of(words[1]),
@@ -26,12 +26,12 @@ fn lab_of(words: [u32; 8]) -> Lab {
 }
 
 // The first three words as XYZ.
-fn xyz_of(words: [u32; 8]) -> [f32; 3] {
+fn xyz_of(words: [u32; 24]) -> [f32; 3] {
     [float_of(words[0]), float_of(words[1]), float_of(words[2])]
 }
 
 // Whether the first three words are codes.
-fn has_codes(words: [u32; 8]) -> bool {
+fn has_codes(words: [u32; 24]) -> bool {
     words[0] < 256 && words[1] < 256 && words[2] < 256
 }
 
@@ -41,7 +41,7 @@ fn low_byte(word: u32) -> u8 {
 }
 
 // The first three words as codes.
-fn codes_of(words: [u32; 8]) -> Srgb8 {
+fn codes_of(words: [u32; 24]) -> Srgb8 {
     Srgb8 {
         r: low_byte(words[0]),
         g: low_byte(words[1]),
@@ -50,22 +50,22 @@ fn codes_of(words: [u32; 8]) -> Srgb8 {
 }
 
 // Whether three floats are the three words after the first three.
-fn same_floats(x: f32, y: f32, z: f32, words: [u32; 8]) -> bool {
+fn same_floats(x: f32, y: f32, z: f32, words: [u32; 24]) -> bool {
     same_float(x, words[3]) && same_float(y, words[4]) && same_float(z, words[5])
 }
 
 // Whether a colour by its floats is that of the three words after the first three.
-fn same_linear(c: Linear, words: [u32; 8]) -> bool {
+fn same_linear(c: Linear, words: [u32; 24]) -> bool {
     same_floats(c.r, c.g, c.b, words)
 }
 
 // Whether a Lab colour is that of the three words after the first three.
-fn same_lab(c: Lab, words: [u32; 8]) -> bool {
+fn same_lab(c: Lab, words: [u32; 24]) -> bool {
     same_floats(c.l, c.a, c.b, words)
 }
 
 // Whether XYZ are the three words after the first three.
-fn same_xyz(v: [f32; 3], words: [u32; 8]) -> bool {
+fn same_xyz(v: [f32; 3], words: [u32; 24]) -> bool {
     same_floats(v[0], v[1], v[2], words)
 }
 
@@ -75,7 +75,7 @@ fn same_codes(c: Srgb8, r: u32, g: u32, b: u32) -> bool {
 }
 
 // Whether a root is the one that is expected, or is refused with the number that is.
-fn same_root(root: Root, words: [u32; 8]) -> bool {
+fn same_root(root: Root, words: [u32; 24]) -> bool {
     match root {
         Root::Is(r) => words[1] == 0 && same_float(r, words[2]),
         Root::Refused(why) => words[1] == why.number() as u32 && words[2] == 0,
@@ -83,7 +83,7 @@ fn same_root(root: Root, words: [u32; 8]) -> bool {
 }
 
 // Whether a clipped colour is the one that is expected.
-fn same_clipped(words: [u32; 8]) -> bool {
+fn same_clipped(words: [u32; 24]) -> bool {
     let clipped = color::lch_to_srgb8_gamut_clipped(
         float_of(words[0]),
         float_of(words[1]),
@@ -95,7 +95,7 @@ fn same_clipped(words: [u32; 8]) -> bool {
 }
 
 // The operations on one float.
-fn agrees_of_one(operation: u64, words: [u32; 8]) -> bool {
+fn agrees_of_one(operation: u64, words: [u32; 24]) -> bool {
     let x = float_of(words[0]);
     match operation {
         operations::SQRT => same_root(roots::sqrt(x), words),
@@ -107,7 +107,7 @@ fn agrees_of_one(operation: u64, words: [u32; 8]) -> bool {
 }
 
 // The operations on codes.
-fn agrees_of_codes(operation: u64, words: [u32; 8]) -> bool {
+fn agrees_of_codes(operation: u64, words: [u32; 24]) -> bool {
     if !has_codes(words) {
         return false;
     }
@@ -120,7 +120,7 @@ fn agrees_of_codes(operation: u64, words: [u32; 8]) -> bool {
 }
 
 // The operations on a colour by its floats.
-fn agrees_of_linear(operation: u64, words: [u32; 8]) -> bool {
+fn agrees_of_linear(operation: u64, words: [u32; 24]) -> bool {
     let c = linear_of(words);
     match operation {
         operations::L2S => same_codes(color::linear_to_srgb8(c), words[3], words[4], words[5]),
@@ -133,7 +133,7 @@ fn agrees_of_linear(operation: u64, words: [u32; 8]) -> bool {
 }
 
 // The operations on XYZ.
-fn agrees_of_xyz(operation: u64, words: [u32; 8]) -> bool {
+fn agrees_of_xyz(operation: u64, words: [u32; 24]) -> bool {
     let xyz = xyz_of(words);
     match operation {
         operations::X2L => same_linear(color::xyz_to_linear(xyz), words),
@@ -143,7 +143,7 @@ fn agrees_of_xyz(operation: u64, words: [u32; 8]) -> bool {
 }
 
 // The operations on a Lab colour.
-fn agrees_of_lab(operation: u64, words: [u32; 8]) -> bool {
+fn agrees_of_lab(operation: u64, words: [u32; 24]) -> bool {
     let lab = lab_of(words);
     match operation {
         operations::LAB2X => same_xyz(color::lab_to_xyz(lab), words),
@@ -154,7 +154,7 @@ fn agrees_of_lab(operation: u64, words: [u32; 8]) -> bool {
 }
 
 // Whether an operation gives what the words say.
-pub fn agrees(operation: u64, words: [u32; 8]) -> bool {
+pub fn agrees(operation: u64, words: [u32; 24]) -> bool {
     match operation {
         operations::SQRT | operations::CBRT | operations::LABF | operations::LABFINV =>
             agrees_of_one(operation, words),

@@ -65,13 +65,13 @@ pub const HUE: u64 = 0x68_7565;
 pub const CLIP: u64 = 0x636c_6970;
 
 // How many operations there are.
-pub const COUNT: usize = 21;
+const COUNT: usize = 21;
 
-// How many of them, the first ones, are no cases.
-pub const SETTINGS: usize = 3;
+// The place of the first operation that is a case.
+pub const FIRST_CASE: usize = 3;
 
 // The operations in the order in which they are reported.
-const NAMES: [u64; 21] = [
+pub const NAMES: [u64; 21] = [
     DIR,
     BAD,
     LEN,
@@ -122,22 +122,14 @@ const WORDS: [usize; 21] = [
 
 // The place of an operation among all, or their number where there is no such operation.
 pub fn place_of(operation: u64) -> usize {
-    let mut i = 0;
-    while i < COUNT {
-        if NAMES[i] == operation {
-            return i;
-        }
-        i += 1;
+    let names = NAMES;
+    cases::place_of(&names, operation)
+}
+
+// Whether the operation at a place has so many words.
+pub fn takes(place: usize, words: usize) -> bool {
+    if place < COUNT {
+        return WORDS[place] == words;
     }
-    i
-}
-
-// The operation at a place, and 0 where there is none.
-pub fn name_at(place: usize) -> u64 {
-    if place < COUNT { NAMES[place] } else { 0 }
-}
-
-// How many words the operation at a place has, and more than a line may have where there is none.
-pub fn words_at(place: usize) -> usize {
-    if place < COUNT { WORDS[place] } else { 9 }
+    false
 }

@@ -1,106 +1,77 @@
-// What came of a list so far: how many lines of each operation, and which lines differ.
-use crate::hues::Lent;
+// What came of a list so far, and what the next hue is lent.
 use crate::operations;
+use case_lines::Replay;
 use cases::Line;
-
-// How many lines that differ are written.
-const SHOWN: u64 = 20;
+use cases::directions::Lent;
 
 // What came of the lines so far.
 pub struct Run {
-    // how many lines of each operation there are
-    pub counts: [u64; 21],
-    // how many cases were compared
-    pub cases: u64,
-    // how many lines differ
-    pub differ: u64,
+    pub replay: Replay,
     // what the next hue is lent
     pub lent: Lent,
-}
-
-// Writes the start of a text to standard output.
-fn write(text: [u8; 64], length: usize) {
-    if length <= 64 {
-        io::write_all(libc::STDOUT_FILENO, &text[0..length]);
-    }
 }
 
 impl Run {
     // No line has come yet.
     pub fn new() -> Run {
         Run {
-            counts: [0u64; 21],
-            cases: 0,
-            differ: 0,
+            replay: Replay::new(),
             lent: Lent::all(),
         }
     }
 
+    // The line read last.
+    pub fn line(self) -> Line {
+        let replay = self.replay;
+        replay.line
+    }
+
+    // Whether that line is a case, which has just ended.
+    pub fn has_case(self) -> bool {
+        let replay = self.replay;
+        replay.case
+    }
+
+    // Whether there is no more to read.
+    pub fn done(self) -> bool {
+        let replay = self.replay;
+        !replay.more
+    }
+
+    // With the next line or bytes read.
+    pub fn turned(mut self, buffer: &mut [u8]) -> Run {
+        let replay = self.replay;
+        let next = replay.turned(buffer);
+        self.replay = next;
+        self
+    }
+
     // With one more line of the operation at a place.
     pub fn counting(mut self, place: usize) -> Run {
-        if place < operations::COUNT {
-            self.counts[place] = cases::counted(self.counts[place]);
-            if operations::SETTINGS <= place {
-                self.cases = cases::counted(self.cases);
-            }
-        }
+        let replay = self.replay;
+        let next = replay.counting(place, operations::FIRST_CASE);
+        self.replay = next;
         self
     }
 
-    // With one more line that differs, which is written with a note if it is among the first.
-    pub fn differs(mut self, line: Line, note: &[u8]) -> Run {
-        if self.differ < SHOWN {
-            let mut text = [0u8; 64];
-            let mut at = cases::put_bytes(&mut text, 0, b"line ");
-            at = cases::put_number(&mut text, at, line.number);
-            at = cases::put_bytes(&mut text, at, b": ");
-            at = cases::put_operation(&mut text, at, line.operation);
-            at = cases::put_bytes(&mut text, at, note);
-            at = cases::put_byte(&mut text, at, b'\n');
-            write(text, at);
-        }
-        self.differ = cases::counted(self.differ);
+    // With one more line that differs, unless it is as it should be.
+    pub fn unless(mut self, same: bool, note: &[u8]) -> Run {
+        let replay = self.replay;
+        let next = replay.unless(same, note);
+        self.replay = next;
         self
     }
 
-    // With what is missing after the last line: the hue that another line waits for.
-    pub fn settled(self, line: Line) -> Run {
+    // With nothing that waits for the next hue.
+    pub fn settled(mut self) -> Run {
+        self.lent = Lent::all();
+        self
+    }
+
+    // What came of the list at its end.
+    pub fn finished(self) -> Replay {
+        let replay = self.replay;
         let lent = self.lent;
-        if lent.waits() {
-            return self.differs(line, b", and a hue is missing");
-        }
-        self
-    }
-
-    // Writes how many lines of the operation at a place there are.
-    fn report_at(self, place: usize) {
-        if place < operations::COUNT {
-            let mut text = [0u8; 64];
-            let mut at = cases::put_operation(&mut text, 0, operations::name_at(place));
-            at = cases::put_byte(&mut text, at, b' ');
-            at = cases::put_number(&mut text, at, self.counts[place]);
-            at = cases::put_byte(&mut text, at, b'\n');
-            write(text, at);
-        }
-    }
-
-    // Writes how many lines of each operation there are.
-    fn report_each(self) {
-        let mut i = 0;
-        while i < operations::COUNT {
-            self.report_at(i);
-            i += 1;
-        }
-    }
-
-    // Writes what came of the list.
-    pub fn report(self) {
-        self.report_each();
-        let mut text = [0u8; 64];
-        let mut at = cases::put_number(&mut text, 0, self.cases);
-        at = cases::put_bytes(&mut text, at, b" cases, ");
-        at = cases::put_number(&mut text, at, self.differ);
-        at = cases::put_bytes(&mut text, at, b" differ\n");
-        write(text, at);
+        replay.finished(lent.waits(), b", and a hue is missing")
     }
 }

@@ -1,9 +1,14 @@
 // Functions for callers in other languages, each exported under its own name. A slice is handed over as the address of its
 // first element, then its length; what is written must overlap nothing else that is handed over.
 use gamut::Filling;
+use placement::Answer;
 ghost use mathlib.Core.Path.{_≡_};
+ghost use Prim.Native.Nat.{ℕ};
+ghost use lib.ListN.{length};
+ghost use Rattle.limits.specs.Answers.{refused};
+ghost use Rattle.placement.specs.Placing.{placementSays};
 ghost use Rattle.gamut.specs.Gamut.{fillSaid, fillSays, rowAfter};
-ghost use Rattle.exports.specs.Numbers.{numberOf};
+ghost use Rattle.exports.specs.Numbers.{numberOf, placeNumber, huesAfter};
 
 // An answer as one number.
 fn number_of(filling: Filling) -> u32
@@ -22,4 +27,34 @@ pub extern "C" fn tengcuvo_fill_row(level: usize, cos: &[f32], sin: &[f32], row:
     ensures { λ r. ⌜ (r ≡ numberOf (fillSays level (now (cos .entry)) (now (sin .entry)) (now (row .entry)))) × (now (row .exit) ≡ rowAfter level (now (cos .entry)) (now (sin .entry)) (now (row .entry))) ⌝ }
 {
     number_of(gamut::fill_row(level, cos, sin, row))
+}
+
+// k hues at least `step` apart all round a ring of entries m, each with an entry of at least c: gives 0 with sixteen hues, 255
+// with zeros where there is no placement, or the number of a refusal, with the hues and the work buffer as before.
+#[no_mangle]
+pub extern "C" fn tengcuvo_place(
+    m: &[f32],
+    c: f32,
+    k: usize,
+    step: usize,
+    work: &mut [u16],
+    hues: &mut [u16; 16],
+) -> u32
+    ensures { λ r. ⌜ (r ≡ placeNumber (placementSays k step c (now (m .entry)) (length (now (work .entry))))) × (now (hues .exit) ≡ huesAfter (placementSays k step c (now (m .entry)) (length (now (work .entry)))) (now (hues .entry))) ⌝ }
+    ensures { λ r. ⌜ ((w : ℕ) → placementSays k step c (now (m .entry)) (length (now (work .entry))) ≡ refused w → now (work .exit) ≡ now (work .entry)) ⌝ }
+{
+    let found = placement::feasible(m, c, k, step, work);
+    let answer = found.answer;
+    let given = found.hues;
+    match answer {
+        Answer::Placed => {
+            *hues = given;
+            0
+        }
+        Answer::Nowhere => {
+            *hues = given;
+            255
+        }
+        Answer::Refused(why) => why.number() as u32,
+    }
 }

@@ -1,6 +1,5 @@
 // The operations that give one float, each held to the last word of its line.
 use crate::operations;
-use crate::rows;
 use cases::float_of;
 use cases::same_float;
 use gamut::Gamut;
@@ -11,8 +10,8 @@ fn level_of(word: u32) -> u16 {
 }
 
 // Whether the entry of a level in a direction is the one that is expected.
-fn same_entry(words: [u32; 8], cos: &[f32; 720], sin: &[f32; 720]) -> bool {
-    let j = rows::place_of(words[1]);
+fn same_entry(words: [u32; 24], cos: &[f32; 720], sin: &[f32; 720]) -> bool {
+    let j = cases::size_of(words[1]);
     if words[0] < 0x1_0000 {
         if j < 720 {
             let l = Gamut::l_of(level_of(words[0]));
@@ -23,18 +22,18 @@ fn same_entry(words: [u32; 8], cos: &[f32; 720], sin: &[f32; 720]) -> bool {
 }
 
 // Whether the greatest chroma at a lightness in a direction is the one that is expected.
-fn same_chroma(words: [u32; 8]) -> bool {
+fn same_chroma(words: [u32; 24]) -> bool {
     let chroma = gamut::max_chroma(float_of(words[0]), float_of(words[1]), float_of(words[2]));
     same_float(chroma, words[3])
 }
 
 // Whether the lightness of a level is the one that is expected.
-fn same_lightness(words: [u32; 8]) -> bool {
+fn same_lightness(words: [u32; 24]) -> bool {
     words[0] < 0x1_0000 && same_float(Gamut::l_of(level_of(words[0])), words[1])
 }
 
 // Whether an operation gives what the words say.
-pub fn agrees(operation: u64, words: [u32; 8], cos: &[f32; 720], sin: &[f32; 720]) -> bool {
+pub fn agrees(operation: u64, words: [u32; 24], cos: &[f32; 720], sin: &[f32; 720]) -> bool {
     match operation {
         operations::ENT => same_entry(words, cos, sin),
         operations::MAXC => same_chroma(words),

@@ -26,35 +26,27 @@ pub const MAXC: u64 = 0x6d61_7863;
 pub const LOF: u64 = 0x6c_6f66;
 
 // How many operations there are.
-pub const COUNT: usize = 8;
+const COUNT: usize = 8;
 
-// How many of them, the first ones, are no cases.
-pub const SETTINGS: usize = 4;
+// The place of the first operation that is a case.
+pub const FIRST_CASE: usize = 4;
 
 // The operations in the order in which they are reported.
-const NAMES: [u64; 8] = [DIR, BAD, LEN, SIZE, ROW, ENT, MAXC, LOF];
+pub const NAMES: [u64; 8] = [DIR, BAD, LEN, SIZE, ROW, ENT, MAXC, LOF];
 
 // How many words each of them has.
 const WORDS: [usize; 8] = [3, 3, 2, 1, 4, 3, 4, 2];
 
 // The place of an operation among all, or their number where there is no such operation.
 pub fn place_of(operation: u64) -> usize {
-    let mut i = 0;
-    while i < COUNT {
-        if NAMES[i] == operation {
-            return i;
-        }
-        i += 1;
+    let names = NAMES;
+    cases::place_of(&names, operation)
+}
+
+// Whether the operation at a place has so many words.
+pub fn takes(place: usize, words: usize) -> bool {
+    if place < COUNT {
+        return WORDS[place] == words;
     }
-    i
-}
-
-// The operation at a place, and 0 where there is none.
-pub fn name_at(place: usize) -> u64 {
-    if place < COUNT { NAMES[place] } else { 0 }
-}
-
-// How many words the operation at a place has, and more than a line may have where there is none.
-pub fn words_at(place: usize) -> usize {
-    if place < COUNT { WORDS[place] } else { 9 }
+    false
 }

@@ -7,10 +7,10 @@ use Rattle.gamut_cases.proofs.digest.of.Statement.{statement}
 use Rattle.gamut_cases.proofs.digest.of.Tie as tie
 
 abbrev Inv-loop : tie.InvT-loop
-Inv-loop row digest₀ i₀ digest i = i ≤ length row
+Inv-loop row sum₀ i₀ sum i = i ≤ length row
 
 abbrev μ-loop : tie.MeasureT-loop
-μ-loop row digest₀ i₀ digest i = length row - i
+μ-loop row sum₀ i₀ sum i = length row - i
 
 loop-holds : tie.Need-loop-holds Inv-loop μ-loop
 loop-holds c = omega arith
@@ -41,5 +41,4 @@ returns c = tt
 
 pub of-spec : {M : Type 1} → statement M
 of-spec =
-    tie.close
-    (tie.spec Inv-loop μ-loop loop-holds mul-pattern-of shared-slice-read-pattern-of pattern-of-requires with-pattern-requires add-i loop-less loop-again returns)
+    tie.close (tie.spec Inv-loop μ-loop loop-holds mul-pattern-of shared-slice-read-pattern-of pattern-of-requires with-pattern-requires add-i loop-less loop-again returns)

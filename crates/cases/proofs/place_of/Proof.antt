@@ -1,15 +1,16 @@
--- `gamut_cases::operations::place_of` is safe and ends: it goes over the 8 operations. Assumes nothing.
+-- `cases::place_of` is safe and ends: it goes over the names. Assumes nothing.
 use Prim.Native.Nat.{_≤_, _-_}
 use native.Mathlib.Omega.{arith}
+use lib.ListN.{length}
 use borrow.Author.Needs.{needs}
-use Rattle.gamut_cases.proofs.operations.place_of.Statement.{statement}
-use Rattle.gamut_cases.proofs.operations.place_of.Tie as tie
+use Rattle.cases.proofs.place_of.Statement.{statement}
+use Rattle.cases.proofs.place_of.Tie as tie
 
 abbrev Inv-loop : tie.InvT-loop
-Inv-loop operation i₀ i = i ≤ 8
+Inv-loop names operation i₀ i = i ≤ length names
 
 abbrev μ-loop : tie.MeasureT-loop
-μ-loop operation i₀ i = 8 - i
+μ-loop names operation i₀ i = length names - i
 
 loop-holds : tie.Need-loop-holds Inv-loop μ-loop
 loop-holds c = omega arith
@@ -17,8 +18,8 @@ loop-holds c = omega arith
 mul-if1 : tie.Need-mul-if1 Inv-loop μ-loop
 mul-if1 c = search needs
 
-array-read-if1 : tie.Need-array-read-if1 Inv-loop μ-loop
-array-read-if1 c = search needs
+shared-slice-read-if1 : tie.Need-shared-slice-read-if1 Inv-loop μ-loop
+shared-slice-read-if1 c = omega arith
 
 returns : tie.Need-returns Inv-loop μ-loop
 returns c = tt
@@ -37,4 +38,4 @@ returns-2 c = tt
 
 pub place-of-spec : {M : Type 1} → statement M
 place-of-spec =
-    tie.close (tie.spec Inv-loop μ-loop loop-holds mul-if1 array-read-if1 returns add-i loop-less loop-again returns-2)
+    tie.close (tie.spec Inv-loop μ-loop loop-holds mul-if1 shared-slice-read-if1 returns add-i loop-less loop-again returns-2)

@@ -1,15 +1,15 @@
--- `Run::report_each` is safe and ends: it goes over the 8 operations. Assumes nothing.
+-- `Replay::report_each` is safe and ends: it goes over the counts. Assumes nothing.
 use Prim.Native.Nat.{_≤_, _-_}
 use native.Mathlib.Omega.{arith}
 use borrow.Author.Needs.{needs}
-use Rattle.gamut_cases.proofs.run.Run.report_each.Statement.{statement}
-use Rattle.gamut_cases.proofs.run.Run.report_each.Tie as tie
+use Rattle.case_lines.proofs.Replay.report_each.Statement.{statement}
+use Rattle.case_lines.proofs.Replay.report_each.Tie as tie
 
 abbrev Inv-loop : tie.InvT-loop
-Inv-loop self i₀ i = i ≤ 8
+Inv-loop self names i₀ i = i ≤ 24
 
 abbrev μ-loop : tie.MeasureT-loop
-μ-loop self i₀ i = 8 - i
+μ-loop self names i₀ i = 24 - i
 
 loop-holds : tie.Need-loop-holds Inv-loop μ-loop
 loop-holds c = omega arith
@@ -30,4 +30,5 @@ returns : tie.Need-returns Inv-loop μ-loop
 returns c = tt
 
 pub report-each-spec : {M : Type 1} → statement M
-report-each-spec = tie.close (tie.spec Inv-loop μ-loop loop-holds report-at-requires add-i loop-less loop-again returns)
+report-each-spec =
+    tie.close (tie.spec Inv-loop μ-loop loop-holds report-at-requires add-i loop-less loop-again returns)

@@ -1,0 +1,115 @@
+// Steps and placements, each held to the words after its inputs.
+use crate::rubbish;
+use crate::run::Run;
+use placement::Answer;
+use placement::Stepping;
+
+// Whether the step for a hue count is the one that is expected, or is refused with the number that is.
+fn same_step(words: [u32; 24]) -> bool {
+    match placement::step_for(cases::size_of(words[0])) {
+        Stepping::Is(step) => words[1] == 0 && step == cases::size_of(words[2]),
+        Stepping::Declined(why) => words[1] == why.number() as u32 && words[2] == 0,
+    }
+}
+
+// Takes a step.
+pub fn take_step(run: Run) -> Run {
+    let line = run.line();
+    let words = line.words;
+    run.unless(same_step(words), b"")
+}
+
+// The hue that the words say for a place, 0 after the last.
+fn hue_said(words: [u32; 24], count: usize, place: usize) -> u32 {
+    if place < 16 {
+        if place + 5 < count {
+            return words[place + 5];
+        }
+    }
+    0
+}
+
+// Whether a hue is the one that is expected.
+fn same_hue(hue: u16, said: u32) -> bool {
+    hue as u32 == said
+}
+
+// Whether sixteen hues are those that the words say.
+fn same_hues(hues: [u16; 16], words: [u32; 24], count: usize) -> bool {
+    let mut i = 0;
+    while i < 16 {
+        if !same_hue(hues[i], hue_said(words, count, i)) {
+            return false;
+        }
+        i += 1;
+    }
+    true
+}
+
+// Whether an answer is of the kind that the words say.
+fn same_answer(answer: Answer, number: u32, placed: bool) -> bool {
+    match answer {
+        Answer::Placed => number == 0 && placed,
+        Answer::Nowhere => number == 0 && !placed,
+        Answer::Refused(why) => number == why.number() as u32,
+    }
+}
+
+// Whether an answer is a refusal.
+pub fn is_refused(answer: Answer) -> bool {
+    match answer {
+        Answer::Placed => false,
+        Answer::Nowhere => false,
+        Answer::Refused(_) => true,
+    }
+}
+
+// Whether a placement in this work buffer is the one that is expected, and leaves the buffer where it is refused.
+fn same_place(words: [u32; 24], count: usize, seed: u32, m: &[f32], work: &mut [u16]) -> bool {
+    let k = cases::size_of(words[0]);
+    let step = cases::size_of(words[1]);
+    let c = cases::float_of(words[2]);
+    rubbish::fill(work, seed);
+    let found = placement::feasible(m, c, k, step, work);
+    let answer = found.answer;
+    let hues = found.hues;
+    if is_refused(answer) {
+        if !rubbish::stands(work, seed) {
+            return false;
+        }
+    }
+    same_answer(answer, words[4], 5 < count) && same_hues(hues, words, count)
+}
+
+// Whether it is in a work buffer of the length that the words say, on a ring of this length.
+fn same_in(words: [u32; 24], count: usize, seed: u32, ring: &[f32], length: usize) -> bool {
+    let mut work = [0u16; 2400];
+    let room = cases::size_of(words[3]);
+    if length <= ring.len() {
+        if room <= 2400 {
+            let part = &mut work[0..room];
+            return same_place(words, count, seed, &ring[0..length], part);
+        }
+    }
+    false
+}
+
+// Whether a placement has as many hues as it may: none, or k where it is not refused.
+fn is_whole(words: [u32; 24], count: usize) -> bool {
+    if 5 < count {
+        return words[4] == 0 && count - 5 == cases::size_of(words[0]);
+    }
+    count == 5
+}
+
+// Takes a placement.
+pub fn take_place(run: Run, ring: &[f32]) -> Run {
+    let line = run.line();
+    let words = line.words;
+    let count = line.count;
+    if is_whole(words, count) && words[3] <= 2400 {
+        let same = same_in(words, count, run.seed, ring, run.length);
+        return run.stirred().unless(same, b"");
+    }
+    run.unless(false, b" malformed")
+}

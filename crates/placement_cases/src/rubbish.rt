@@ -1,0 +1,41 @@
+// What a work buffer holds before a placement: numbers that no placement wrote, others before each.
+
+// The seed after this one (xorshift with 32 bits).
+pub fn stirred(seed: u32) -> u32 {
+    let first = seed ^ seed << 13;
+    let second = first ^ first >> 17;
+    second ^ second << 5
+}
+
+// The number that a seed gives: half of them could be indices of a ring of 720, and half are any.
+fn number_of(seed: u32) -> u16 {
+    if seed < 0x8000_0000 {
+        return (seed % 1440) as u16;
+    }
+    (seed % 0x1_0000) as u16
+}
+
+// Fills a work buffer.
+pub fn fill(work: &mut [u16], seed: u32) {
+    let mut next = seed;
+    let mut i = 0;
+    while i < work.len() {
+        work[i] = number_of(next);
+        next = stirred(next);
+        i += 1;
+    }
+}
+
+// Whether a work buffer is as it was filled.
+pub fn stands(work: &[u16], seed: u32) -> bool {
+    let mut next = seed;
+    let mut i = 0;
+    while i < work.len() {
+        if work[i] != number_of(next) {
+            return false;
+        }
+        next = stirred(next);
+        i += 1;
+    }
+    true
+}

@@ -1,0 +1,144 @@
+// Sweeps: every placement on a ring, held to one digest. The digest goes over each hue count from 1 to 16, for it over
+// each spacing from 1 to the ring's length, and for both over the chromas of the line. Each answer gives a byte: 0 for
+// none, 255 for a placement, the number of a refusal, or 254 for one that left its work buffer changed. Sixteen hues
+// follow, two bytes each, the low one first.
+use crate::places;
+use crate::rubbish;
+use crate::run::Run;
+use cases::digest;
+use placement::Answer;
+
+// The digest of the answers so far, and what the rubbish of the next work buffer is made from.
+struct Sum {
+    digest: u64,
+    seed: u32,
+}
+
+// The byte of an answer.
+fn byte_of(answer: Answer) -> u32 {
+    match answer {
+        Answer::Placed => 255,
+        Answer::Nowhere => 0,
+        Answer::Refused(why) => why.number() as u32,
+    }
+}
+
+// With sixteen hues.
+fn with_hues(sum: u64, hues: [u16; 16]) -> u64 {
+    let mut to = sum;
+    let mut i = 0;
+    while i < 16 {
+        to = digest::with_pair(to, hues[i]);
+        i += 1;
+    }
+    to
+}
+
+// With one placement.
+fn with_place(sum: Sum, m: &[f32], c: f32, k: usize, step: usize, work: &mut [u16]) -> Sum {
+    let seed = sum.seed;
+    rubbish::fill(work, seed);
+    let found = placement::feasible(m, c, k, step, work);
+    let answer = found.answer;
+    let hues = found.hues;
+    let mut byte = byte_of(answer);
+    if places::is_refused(answer) {
+        if !rubbish::stands(work, seed) {
+            byte = 254;
+        }
+    }
+    Sum {
+        digest: with_hues(digest::with_byte(sum.digest, byte), hues),
+        seed: rubbish::stirred(seed),
+    }
+}
+
+// With a placement at the chroma that a word says.
+fn with_word(
+    sum: Sum,
+    m: &[f32],
+    words: [u32; 24],
+    i: usize,
+    k: usize,
+    step: usize,
+    work: &mut [u16],
+) -> Sum {
+    if i < 24 {
+        return with_place(sum, m, cases::float_of(words[i]), k, step, work);
+    }
+    sum
+}
+
+// With a placement at each chroma.
+fn with_chromas(
+    sum: Sum,
+    m: &[f32],
+    words: [u32; 24],
+    count: usize,
+    k: usize,
+    step: usize,
+    work: &mut [u16],
+) -> Sum {
+    let mut to = sum;
+    let mut i = 2;
+    while i < count {
+        to = with_word(to, m, words, i, k, step, work);
+        i += 1;
+    }
+    to
+}
+
+// With each spacing.
+fn with_steps(
+    sum: Sum,
+    m: &[f32],
+    words: [u32; 24],
+    count: usize,
+    k: usize,
+    work: &mut [u16],
+) -> Sum {
+    let mut to = sum;
+    let mut i = 0;
+    while i < m.len() {
+        i += 1;
+        to = with_chromas(to, m, words, count, k, i, work);
+    }
+    to
+}
+
+// With each hue count.
+fn with_counts(sum: Sum, m: &[f32], words: [u32; 24], count: usize, work: &mut [u16]) -> Sum {
+    let mut to = sum;
+    let mut k = 0;
+    while k < 16 {
+        k += 1;
+        to = with_steps(to, m, words, count, k, work);
+    }
+    to
+}
+
+// The same, on a ring of this length and in a work buffer of three times that.
+fn swept(sum: Sum, ring: &[f32], length: usize, words: [u32; 24], count: usize) -> Sum {
+    let mut work = [0u16; 2400];
+    if length <= 800 {
+        let room = 3 * length;
+        if length <= ring.len() {
+            let part = &mut work[0..room];
+            return with_counts(sum, &ring[0..length], words, count, part);
+        }
+    }
+    sum
+}
+
+// Takes a sweep.
+pub fn take_sweep(mut run: Run, ring: &[f32]) -> Run {
+    let line = run.line();
+    let words = line.words;
+    let none = Sum {
+        digest: digest::START,
+        seed: run.seed,
+    };
+    let sum = swept(none, ring, run.length, words, line.count);
+    run.seed = sum.seed;
+    run.unless(sum.digest == digest::said(words[0], words[1]), b"")
+}
