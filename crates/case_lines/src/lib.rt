@@ -2,6 +2,9 @@
 // are, and which lines differ.
 use cases::Found;
 use cases::Line;
+ghost use mathlib.Core.Path.{_≡_};
+ghost use mathlib.Core.Bool.{cond};
+ghost use Rattle.cases.specs.Counts.{countedOf};
 
 // How many lines that differ are written.
 const SHOWN: u64 = 20;
@@ -64,7 +67,9 @@ impl Replay {
     }
 
     // With one more line that differs, which is written with a note if it is among the first.
-    pub fn differs(mut self, note: &[u8]) -> Replay {
+    pub fn differs(mut self, note: &[u8]) -> Replay
+        ensures { λ r. ⌜ r .differ ≡ countedOf (self .differ) ⌝ }
+    {
         if self.differ < SHOWN {
             let line = self.line;
             let mut text = [0u8; 64];
@@ -81,7 +86,9 @@ impl Replay {
     }
 
     // The same, unless the line is as it should be.
-    pub fn unless(self, same: bool, note: &[u8]) -> Replay {
+    pub fn unless(self, same: bool, note: &[u8]) -> Replay
+        ensures { λ r. ⌜ r .differ ≡ cond same (self .differ) (countedOf (self .differ)) ⌝ }
+    {
         if same {
             return self;
         }

@@ -9,6 +9,7 @@ pub mod directions;
 ghost use mathlib.Core.Path.{_≡_};
 ghost use Prim.Native.Nat.{_≤_};
 ghost use lib.Ieee.{binary32, nanBits, ofBits};
+ghost use Rattle.cases.specs.Counts.{countedOf};
 ghost use Rattle.cases.specs.Found.{foundOf, leftOf};
 ghost use Rattle.cases.specs.Same.{sameFloat};
 
@@ -58,7 +59,9 @@ pub struct Line {
 }
 
 // One more than n, or n where that is the greatest number.
-pub fn counted(n: u64) -> u64 {
+pub fn counted(n: u64) -> u64
+    ensures { λ r. ⌜ r ≡ countedOf n ⌝ }
+{
     if n < u64::MAX { n + 1 } else { n }
 }
 
