@@ -1,6 +1,11 @@
 pub mod Halve
 pub mod Least
+pub mod Closest
 pub mod Patterns
 pub mod Nearest
 pub mod Order
 pub mod Range
+pub mod Midway
+pub mod Width
+pub mod Plain
+pub mod EndState

@@ -15,7 +15,7 @@ use lib.Ieee.Order.{round-mono}
 use borrow.Author.Tests.{ltb-true, ltb-false, eqb-true, le-ltb, not-true}
 use Rattle.limits.specs.Taken.{signBit, signClear, upTo, f32Of}
 use Rattle.limits.proofs.Floats.{never, round-sign}
-use Rattle.halving.specs.Midpoint.{midpoint, halve}
+use Rattle.halving.specs.Midpoint.{midpoint, halved, halve}
 
 -- a number from 0 to b whose sign bit is clear
 abbrev pub UpTo : ℕ → Float → Type 0
@@ -93,7 +93,7 @@ unfolding midpoint
 midpoint-up-to b lo hi B p q = half-up-to b (add binary32 lo hi) (omega arith) (sum-up-to b lo hi B p q)
 
 pub halve-up-to : (b : ℕ) (ok : Float → Bool) (n : ℕ) (lo hi : Float) → b + b ≤ 16777216 → UpTo b lo → UpTo b hi → UpTo b (halve ok n lo hi)
-unfolding halve
+unfolding halve halved
 halve-up-to b ok zero lo hi B p q = p
 halve-up-to b ok (suc n) lo hi B p q =
     let mid = midpoint lo hi in

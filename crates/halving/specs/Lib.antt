@@ -1,2 +1,3 @@
 pub mod Midpoint
 pub mod Patterns
+pub mod Ends

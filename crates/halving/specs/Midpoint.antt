@@ -7,10 +7,14 @@ use lib.Ieee.{Float, binary32, round, add, mul}
 unfoldable pub midpoint : Float → Float → Float
 midpoint lo hi = mul binary32 (round binary32 false 1 2) (add binary32 lo hi)
 
--- lo after n halvings of lo to hi by the test ok
-unfoldable pub halve : (Float → Bool) → ℕ → Float → Float → Float
-halve ok zero lo hi = lo
-halve ok (suc n) lo hi =
+-- lo and hi after n halvings by the test ok
+unfoldable pub halved : (Float → Bool) → ℕ → Float → Float → Float × Float
+halved ok zero lo hi = (lo, hi)
+halved ok (suc n) lo hi =
     let mid = midpoint lo hi in
     let passed = ok mid in
-    halve ok n (cond passed mid lo) (cond passed hi mid)
+    halved ok n (cond passed mid lo) (cond passed hi mid)
+
+-- lo alone
+unfoldable pub halve : (Float → Bool) → ℕ → Float → Float → Float
+halve ok n lo hi = halved ok n lo hi .0

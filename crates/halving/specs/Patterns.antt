@@ -3,7 +3,7 @@
 use Prim.Native.Nat.{ℕ, zero, suc, _+_, _-_, _*_, _/_, _%_, _^_}
 use mathlib.Core.Bool.{Bool, cond}
 use lib.Dec.{leb}
-use lib.Ieee.{Float, binary32, ofBits}
+use lib.Ieee.{Float, binary32, ofBits, toBits}
 
 -- m digits under the exponent field x, in units of 2 ^ -149, the smallest f32: a field of 0 has no leading digit
 unfoldable pub worthOf : ℕ → ℕ → ℕ
@@ -14,6 +14,10 @@ worthOf (suc x) m = (8388608 + m) * 2 ^ x
 unfoldable pub worth : ℕ → ℕ
 unfolding worthOf
 worth b = worthOf (b / 8388608) (b % 8388608)
+
+-- the next f32 after x, for an x that is neither negative nor the infinity
+unfoldable pub next : Float → Float
+next x = ofBits binary32 (suc (toBits binary32 x))
 
 -- The least of the 2 ^ k numbers from `from` on at which p holds, found by halving, for a p that holds from there on.
 unfoldable pub least : (ℕ → Bool) → ℕ → ℕ → ℕ

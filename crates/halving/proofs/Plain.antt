@@ -1,0 +1,208 @@
+-- The f32 from plus 0 up, the infinity left out: each has its pattern, they compare as their patterns do, and no f32 lies between one and the next. Assumes nothing.
+use mathlib.Core.Path.{_≡_, refl, sym, ap, _∙_, subst}
+use mathlib.Core.Logic.{_⊎_, inl, inr}
+use mathlib.Core.Bool.{Bool, true, false, not, _&&_, _||_, true≢false}
+use Prim.Native.Nat.{ℕ, suc, _+_, _-_, _*_, _^_, _≤_, _<_}
+use native.Mathlib.Nat.{le-trans, le-of-eq, le-antisymm, lt-of-not-le, not-le-of-lt, mul-assoc, mul-right-comm, mul-le-mul-right, le-of-mul-le-mul-right}
+use native.Mathlib.Omega.{arith}
+use lib.IntN.{ℤ}
+use lib.Dec.{T, leb, ltb, eqb}
+use lib.Pow.{pow-pos, pow-add}
+use lib.Ieee.{Float, nan, inf, fin, binary32, up, down, ofBits, toBits, fits, isNan, lt, eq, le, ofInt}
+use lib.Ieee.Bits.{ofBits-toBits, toBits-ofBits, ofBits-fits, is-true}
+use lib.Ieee.Exact.{HasValue}
+use lib.Ieee.Fits.{down-pos}
+use lib.Ieee.Order.{transfer, le-of-values}
+use borrow.Author.Tests.{leb-true, leb-false, ltb-true, ltb-false, lt-ltb, le-ltb, le-leb, lt-leb, eq-eqb, ne-eqb}
+use Rattle.limits.specs.Taken.{signBit, rootOperandTaken, f32Of, upTo, entryTaken, chromaTaken}
+use Rattle.limits.proofs.Floats.{never, operand-pattern}
+use Rattle.halving.specs.Patterns.{worth, next}
+use Rattle.halving.proofs.Least.{below-or-not}
+use Rattle.halving.proofs.Patterns.{worth-le, worth-normal, pattern-value}
+use Rattle.halving.proofs.Midway.{Units}
+use Rattle.halving.proofs.Range.{UpTo, taken-up-to}
+use Rattle.halving.proofs.Width.{worth-lt}
+
+-- ---- two numbers of units, by their fractions
+module _ (m n a b : ℕ) (e d : ℤ) (p : m * up e * 2 ^ 149 ≡ a * down e) (q : n * up d * 2 ^ 149 ≡ b * down d) where
+  fractions-le : a ≤ b → m * up e * down d ≤ n * up d * down e
+  fractions-le h = transfer (m * up e) (n * up d) (down e) (down d) a b (2 ^ 149) (2 ^ 149) (pow-pos 149) (pow-pos 149) p q (mul-le-mul-right (2 ^ 149) h)
+
+  units-le : m * up e * down d ≤ n * up d * down e → a ≤ b
+  units-le h = le-of-mul-le-mul-right (transfer a b (2 ^ 149) (2 ^ 149) (m * up e) (n * up d) (down e) (down d) (down-pos e) (down-pos d) (sym p) (sym q) h) (pow-pos 149)
+
+-- the same by tests
+tests : (P Q a b : ℕ) → (a ≤ b → P ≤ Q) → (P ≤ Q → a ≤ b) → (b ≤ a → Q ≤ P) → (Q ≤ P → b ≤ a) → (ltb P Q ≡ ltb a b) × ((ltb P Q || (eqb P Q && true)) ≡ leb a b)
+tests P Q a b f g h k = elim (below-or-not a b) [ inl l ↦ less l | inr l ↦ more l ]
+  where
+    less : a < b → (ltb P Q ≡ ltb a b) × ((ltb P Q || (eqb P Q && true)) ≡ leb a b)
+    less l =
+        let s : P < Q = lt-of-not-le (λ (z : Q ≤ P). not-le-of-lt l (k z)) in
+        (lt-ltb P Q s ∙ sym (lt-ltb a b l), ap (λ (t : Bool). t || (eqb P Q && true)) (lt-ltb P Q s) ∙ sym (le-leb a b (omega arith)))
+
+    more : b ≤ a → (ltb P Q ≡ ltb a b) × ((ltb P Q || (eqb P Q && true)) ≡ leb a b)
+    more l = (le-ltb P Q (h l) ∙ sym (le-ltb a b l), ap (λ (t : Bool). t || (eqb P Q && true)) (le-ltb P Q (h l)) ∙ same)
+      where
+        same : (eqb P Q && true) ≡ leb a b
+        same = elim (below-or-not b a) [ inl z ↦ apart z | inr z ↦ equal z ]
+          where
+            apart : b < a → (eqb P Q && true) ≡ leb a b
+            apart z = ap (λ (t : Bool). t && true) (ne-eqb P Q (λ (u : P ≡ Q). not-le-of-lt z (g (le-of-eq u)))) ∙ sym (lt-leb a b z)
+
+            equal : a ≤ b → (eqb P Q && true) ≡ leb a b
+            equal z = ap (λ (t : Bool). t && true) (eq-eqb P Q (le-antisymm (f z) (h l))) ∙ sym (le-leb a b z)
+
+module _ (x y : Float) (a b : ℕ) where
+  compared : Units x a → Units y b → (lt x y ≡ ltb a b) × (le x y ≡ leb a b)
+  unfolding le lt eq
+  compared v w = go x y v w
+    where
+      go : (x y : Float) → Units x a → Units y b → (lt x y ≡ ltb a b) × (le x y ≡ leb a b)
+      go nan y v w = absurd v
+      go (inf s) y v w = absurd v
+      go (fin true m e) y v w = absurd (true≢false (v .0))
+      go (fin false m e) nan v w = absurd w
+      go (fin false m e) (inf t) v w = absurd w
+      go (fin false m e) (fin true n d) v w = absurd (true≢false (w .0))
+      go (fin false m e) (fin false n d) v w =
+          tests (m * up e * down d) (n * up d * down e) a b
+          (fractions-le m n a b e d (v .1) (w .1)) (units-le m n a b e d (v .1) (w .1))
+          (fractions-le n m b a d e (w .1) (v .1)) (units-le n m b a d e (w .1) (v .1))
+
+-- ---- such an f32 with its pattern
+pub record Plain (x : Float) : Type 0 where
+  pub f32 : T (fits binary32 x)
+  pub under : toBits binary32 x < 2139095040
+
+pub plain-is : (x : Float) → Plain x → ofBits binary32 (toBits binary32 x) ≡ x
+plain-is x p = ofBits-toBits binary32 x (p .f32)
+
+pub plain-units : (x : Float) → Plain x → Units x (worth (toBits binary32 x))
+plain-units x p = subst (λ (y : Float). Units y (worth (toBits binary32 x))) (plain-is x p) (pattern-value (toBits binary32 x) (p .under))
+
+worth-tests : (a b : ℕ) → (ltb (worth a) (worth b) ≡ ltb a b) × (leb (worth a) (worth b) ≡ leb a b)
+worth-tests a b = elim (below-or-not a b) [
+  | inl l ↦ (lt-ltb (worth a) (worth b) (worth-lt l) ∙ sym (lt-ltb a b l), le-leb (worth a) (worth b) (worth-le (omega arith)) ∙ sym (le-leb a b (omega arith)))
+  | inr l ↦ (le-ltb (worth a) (worth b) (worth-le l) ∙ sym (le-ltb a b l), same l)
+]
+  where
+    same : b ≤ a → leb (worth a) (worth b) ≡ leb a b
+    same l = elim (below-or-not b a) [
+      | inl z ↦ lt-leb (worth a) (worth b) (worth-lt z) ∙ sym (lt-leb a b z)
+      | inr z ↦ le-leb (worth a) (worth b) (worth-le z) ∙ sym (le-leb a b z)
+    ]
+
+module _ (x y : Float) (p : Plain x) (q : Plain y) where
+  abbrev a : ℕ
+  a = toBits binary32 x
+
+  abbrev b : ℕ
+  b = toBits binary32 y
+
+  pub lt-plain : lt x y ≡ ltb a b
+  lt-plain = compared x y (worth a) (worth b) (plain-units x p) (plain-units y q) .0 ∙ worth-tests a b .0
+
+  pub le-plain : le x y ≡ leb a b
+  le-plain = compared x y (worth a) (worth b) (plain-units x p) (plain-units y q) .1 ∙ worth-tests a b .1
+
+-- ---- the order
+pub le-through : (x y z : Float) → Plain x → Plain y → Plain z → le x y ≡ true → le y z ≡ true → le x z ≡ true
+le-through x y z p q r h k =
+    le-plain x z p r
+    ∙ le-leb (toBits binary32 x) (toBits binary32 z)
+    (le-trans (leb-true (toBits binary32 x) (toBits binary32 y) (sym (le-plain x y p q) ∙ h)) (leb-true (toBits binary32 y) (toBits binary32 z) (sym (le-plain y z q r) ∙ k)))
+
+pub not-lt-le : (x y : Float) → Plain x → Plain y → lt x y ≡ false → le y x ≡ true
+not-lt-le x y p q h = le-plain y x q p ∙ le-leb (toBits binary32 y) (toBits binary32 x) (ltb-false (toBits binary32 x) (toBits binary32 y) (sym (lt-plain x y p q) ∙ h))
+
+pub not-le-lt : (x y : Float) → Plain x → Plain y → le x y ≡ false → lt y x ≡ true
+not-le-lt x y p q h = lt-plain y x q p ∙ lt-ltb (toBits binary32 y) (toBits binary32 x) (leb-false (toBits binary32 x) (toBits binary32 y) (sym (le-plain x y p q) ∙ h))
+
+pub le-not-lt : (x y : Float) → Plain x → Plain y → le x y ≡ true → lt y x ≡ false
+le-not-lt x y p q h = lt-plain y x q p ∙ le-ltb (toBits binary32 y) (toBits binary32 x) (leb-true (toBits binary32 x) (toBits binary32 y) (sym (le-plain x y p q) ∙ h))
+
+pub lt-then-le : (x y : Float) → Plain x → Plain y → lt x y ≡ true → le x y ≡ true
+lt-then-le x y p q h =
+    let l : toBits binary32 x < toBits binary32 y = ltb-true (toBits binary32 x) (toBits binary32 y) (sym (lt-plain x y p q) ∙ h) in
+    le-plain x y p q ∙ le-leb (toBits binary32 x) (toBits binary32 y) (omega arith)
+
+-- ---- which f32 are such
+positive-pattern : (m : ℕ) (e : ℤ) → T (fits binary32 (fin false m e)) → Plain (fin false m e)
+unfolding rootOperandTaken signBit
+positive-pattern m e F = record { f32 = F; under = operand-pattern (fin false m e) F refl }
+
+-- a number from 0 to b, by its pattern r, that of b
+pub up-to-plain : (x : Float) (b r : ℕ) → T (fits binary32 x) → UpTo b x → worth r ≡ b * 2 ^ 149 → Plain x × (toBits binary32 x ≤ r)
+up-to-plain nan b r F u e = absurd u
+up-to-plain (inf s) b r F u e = absurd u
+up-to-plain (fin true m k) b r F u e = absurd u
+up-to-plain (fin false m k) b r F u e =
+    let p = positive-pattern m k F in
+    let v = plain-units (fin false m k) p in
+    let c = toBits binary32 (fin false m k) in
+    let h : worth c * down k ≤ b * 2 ^ 149 * down k = le-trans (le-of-eq (sym (v .1))) (le-trans (mul-le-mul-right (2 ^ 149) u) (le-of-eq (mul-right-comm b (down k) (2 ^ 149)))) in
+    let l : worth c ≤ worth r = subst (λ (z : ℕ). worth c ≤ z) (sym e) (le-of-mul-le-mul-right h (down-pos k)) in
+    (p, elim (below-or-not r c) [ inl z ↦ absurd (not-le-of-lt (worth-lt z) l) | inr z ↦ z ])
+
+-- an entry or a chroma that is taken: at most 200
+pub taken-plain : (x : Float) → T (fits binary32 x) → upTo (f32Of 200) x ≡ true → Plain x × (toBits binary32 x ≤ 1128792064)
+taken-plain x F h = up-to-plain x 200 1128792064 F (taken-up-to 200 x (omega arith) h) (worth-normal 133 13107200 (omega arith) (omega arith) ∙ ap (λ (z : ℕ). z * 2 ^ 133) (sym eight) ∙ mul-assoc 200 65536 (2 ^ 133) ∙ ap (λ (z : ℕ). 200 * z) (sym (pow-add 2 16 133)))
+  where
+    eight : 200 * 65536 ≡ 13107200
+    eight = refl
+
+-- what a pattern stands for
+no-nan : (x : Float) (a : ℕ) → Units x a → T (not (isNan x))
+unfolding isNan
+no-nan nan a v = v
+no-nan (inf s) a v = tt
+no-nan (fin s m e) a v = tt
+
+pub bits-of : (b : ℕ) → b < 2139095040 → toBits binary32 (ofBits binary32 b) ≡ b
+bits-of b h = toBits-ofBits binary32 b (omega arith) (no-nan (ofBits binary32 b) (worth b) (pattern-value b h))
+
+pub pattern-plain : (b : ℕ) → b < 2139095040 → Plain (ofBits binary32 b)
+pattern-plain b h = record { f32 = ofBits-fits binary32 b; under = subst (λ (z : ℕ). z < 2139095040) (sym (bits-of b h)) h }
+
+-- ---- the next f32: no f32 lies strictly between
+above-plain : (x y : Float) (a : ℕ) → Units x a → T (fits binary32 y) → lt x y ≡ true → Plain y ⊎ (y ≡ inf false)
+unfolding lt
+above-plain nan y a v F h = absurd v
+above-plain (inf s) y a v F h = absurd v
+above-plain (fin true m e) y a v F h = absurd (true≢false (v .0))
+above-plain (fin false m e) nan a v F h = never h
+above-plain (fin false m e) (inf true) a v F h = never h
+above-plain (fin false m e) (inf false) a v F h = inr refl
+above-plain (fin false m e) (fin true n d) a v F h = never h
+above-plain (fin false m e) (fin false n d) a v F h = inl (positive-pattern n d F)
+
+infinity : (z : Float) (a : ℕ) → Units z a → (lt (inf false) z ≡ false) × (le z (inf false) ≡ true)
+unfolding le lt eq
+infinity nan a v = absurd v
+infinity (inf s) a v = absurd v
+infinity (fin s m e) a v = (refl, refl)
+
+pub infinity-above : (x : Float) → Plain x → (lt (inf false) x ≡ false) × (le x (inf false) ≡ true)
+infinity-above x p = infinity x (worth (toBits binary32 x)) (plain-units x p)
+
+module _ (x : Float) (p : Plain x) (u : toBits binary32 x < 2139095039) where
+  next-bits : toBits binary32 (next x) ≡ suc (toBits binary32 x)
+  unfolding next
+  next-bits = bits-of (suc (toBits binary32 x)) (omega arith)
+
+  pub next-plain : Plain (next x)
+  unfolding next
+  next-plain = pattern-plain (suc (toBits binary32 x)) (omega arith)
+
+  pub none-between : (y : Float) → T (fits binary32 y) → lt x y ≡ true → lt y (next x) ≡ true → ⊥
+  none-between y F h k = elim (above-plain x y (worth (toBits binary32 x)) (plain-units x p) F h) [ inl q ↦ between q | inr e ↦ never (sym (infinity-above (next x) next-plain .0) ∙ subst (λ (z : Float). lt z (next x) ≡ true) e k) ]
+    where
+      between : Plain y → ⊥
+      between q =
+          let a : toBits binary32 x < toBits binary32 y = ltb-true (toBits binary32 x) (toBits binary32 y) (sym (lt-plain x y p q) ∙ h) in
+          let b : toBits binary32 y < toBits binary32 (next x) = ltb-true (toBits binary32 y) (toBits binary32 (next x)) (sym (lt-plain y (next x) q next-plain) ∙ k) in
+          let e = next-bits in
+          omega arith
+
+  pub next-above : lt x (next x) ≡ true
+  next-above = lt-plain x (next x) p next-plain ∙ lt-ltb (toBits binary32 x) (toBits binary32 (next x)) (let e = next-bits in omega arith)
