@@ -12,8 +12,8 @@ use Rattle.limits.proofs.Floats.{never}
 use Rattle.placement.specs.declared.Answer.{Answer}
 use Rattle.placement.specs.declared.Answer.the-variants.{Placed, Nowhere, Refused}
 use Rattle.placement.specs.Ring.{Places, nowhere, placed, orElse, fromStart, firstFrom, reduced, placement}
-use Rattle.placement.specs.Placing.{allowedAt, sixteen, answers}
-use Rattle.placement.specs.Inner.{Asked, isPlaced}
+use Rattle.placement.specs.Placing.{allowedAt, sixteen, answers, isPlaced}
+use Rattle.placement.specs.Inner.{Asked}
 use Rattle.placement.proofs.Chain.{Some}
 use Rattle.placement.proofs.Laws.{few-starts}
 

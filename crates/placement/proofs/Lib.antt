@@ -2,8 +2,8 @@ pub mod Earliest
 pub mod Chain
 pub mod Sorted
 pub mod Laws
-pub mod Cases
 pub mod Table
 pub mod Placing
 pub mod First
 pub mod Checking
+pub mod Stored

@@ -41,8 +41,3 @@ pub record LapAsked (row : List Float) (c : Float) (base last : ℕ) (work : Lis
 pub record Gives (r : Placement) (places : Places) : Type 0 where
   pub says : answers (r .answer) (r .hues) ≡ value (sixteen places)
   pub beside : r .hues ≡ huesBeside (value (sixteen places))
-
-abbrev pub isPlaced : Answer → Bool
-isPlaced Placed = true
-isPlaced Nowhere = false
-isPlaced (Refused w) = false

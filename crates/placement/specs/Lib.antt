@@ -1,5 +1,4 @@
 pub mod Ring
 pub mod Spacing
 pub mod Placing
-pub mod Marked
 pub mod Inner

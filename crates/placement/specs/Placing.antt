@@ -1,6 +1,6 @@
 -- Document 01, "Hue ring", as a call: which arguments are refused by which number, what is handed out as sixteen indices, and the step for k. Definitions only.
 use Prim.Native.Nat.{ℕ, suc, _+_, _-_, _*_, _/_, _%_}
-use mathlib.Core.Bool.{Bool, not, _&&_, cond}
+use mathlib.Core.Bool.{Bool, true, false, not, _&&_, cond}
 use mathlib.Core.List.{List, [], _∷_}
 use lib.Dec.{leb}
 use lib.Ieee.{Float, nan, le}
@@ -39,15 +39,20 @@ abbrev pub sixteen : Places → Places
 sixteen nowhere = nowhere
 sixteen (placed is) = placed (stores (replicate 16 0) 0 is)
 
--- a call with these arguments: refusals 1, 3, 4, 5, 7, 8, the lowest that applies, in front of what a good call says
-unfoldable pub checked : {A : Type 0} → ℕ → ℕ → Float → List Float → ℕ → Said A → Said A
-checked k step c row room good =
+-- Refusals 1, 3, 4, 5, 7, 8, the lowest that applies, in front of what a good call says: for a ring of n hues, by whether 4 takes the lengths of its rows
+-- and 7 their entries.
+abbrev pub checkedRing : {A : Type 0} → ℕ → ℕ → Float → ℕ → Bool → Bool → ℕ → Said A → Said A
+checkedRing k step c n lengths entries room good =
     cond (hueCountTaken k)
     (cond (chromaTaken c)
-    (cond (leb 1 (length row) && leb (length row) 720)
-    (cond (leb 1 step && leb step (length row))
-    (cond (every entryTaken row)
-    (cond (leb (workNeeded (length row)) room) good (refused 8)) (refused 7)) (refused 5)) (refused 4)) (refused 3)) (refused 1)
+    (cond lengths
+    (cond (leb 1 step && leb step n)
+    (cond entries
+    (cond (leb (workNeeded n) room) good (refused 8)) (refused 7)) (refused 5)) (refused 4)) (refused 3)) (refused 1)
+
+-- a call with these arguments, over one row
+unfoldable pub checked : {A : Type 0} → ℕ → ℕ → Float → List Float → ℕ → Said A → Said A
+checked k step c row room good = checkedRing k step c (length row) (leb 1 (length row) && leb (length row) 720) (every entryTaken row) room good
 
 -- what the check of the arguments hands back
 abbrev pub checkSaid : Checked → Said (Unit {0})
@@ -69,6 +74,12 @@ abbrev pub answers : Answer → List ℕ → Said Places
 answers Placed hues = value (placed hues)
 answers Nowhere hues = value nowhere
 answers (Refused w) hues = refused (number w)
+
+-- whether an answer is a placement
+abbrev pub isPlaced : Answer → Bool
+isPlaced Placed = true
+isPlaced Nowhere = false
+isPlaced (Refused w) = false
 
 -- what the step for k hands back, and what it says: k outside 1 to 16 is refused by 1
 abbrev pub stepSaid : Stepping → Said ℕ

@@ -7,8 +7,8 @@ ghost use lib.Dec.{leb};
 ghost use lib.ListN.{length};
 ghost use Rattle.limits.specs.Answers.{value, refused};
 ghost use Rattle.placement.specs.Ring.{nowhere, reduced, fromStart, placement};
-ghost use Rattle.placement.specs.Placing.{allowedAt, checked, checkSaid, placementSays, huesBeside, answers, stepSaid, stepSays};
-ghost use Rattle.placement.specs.Inner.{Asked, Stands, Filled, LapAsked, Gives, isPlaced};
+ghost use Rattle.placement.specs.Placing.{allowedAt, checked, checkSaid, placementSays, huesBeside, answers, isPlaced, stepSaid, stepSays};
+ghost use Rattle.placement.specs.Inner.{Asked, Stands, Filled, LapAsked, Gives};
 
 // Whether the hues were placed.
 pub enum Answer {
@@ -176,7 +176,7 @@ fn first_start(m: &[f32], c: f32, next: &[u16], k: usize, step: usize) -> Placem
 }
 
 // Whether an answer is a placement.
-fn is_placed(answer: Answer) -> bool
+pub fn is_placed(answer: Answer) -> bool
     ensures { λ r. ⌜ r ≡ isPlaced answer ⌝ }
 {
     match answer {

@@ -1,0 +1,5 @@
+pub mod Rows
+pub mod Pair
+pub mod Limit
+pub mod Marked
+pub mod Inner

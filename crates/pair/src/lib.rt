@@ -1,0 +1,156 @@
+// One pair: `best_for_levels` of xtask/src/palette.rs, over two lent rows.
+use limits::Refusal;
+use placement::Checked;
+ghost use mathlib.Core.Path.{_≡_};
+ghost use mathlib.Core.List.{[], _∷_};
+ghost use Prim.Native.Nat.{ℕ};
+ghost use lib.ListN.{length};
+ghost use Rattle.limits.specs.Answers.{value, refused};
+ghost use Rattle.placement.specs.Placing.{checkSaid};
+ghost use Rattle.pair.specs.Rows.{leastRow, largest};
+ghost use Rattle.pair.specs.Pair.{none, found, bestOver, rowsChecked, pairSays, huesBeside, answers};
+ghost use Rattle.pair.specs.Inner.{Taken, Ready, Gives};
+
+// The best of a pair.
+pub enum Answer {
+    // the last chroma placed, with the first k of the hues beside it
+    Found(f32),
+    // nothing is placed at the floor
+    Nothing,
+    // refused by 1, 3, 4, 5, 7 or 8
+    Refused(Refusal),
+}
+
+// An answer with its sixteen hues, zeros after the first k, and all zero where nothing is found.
+pub struct Chosen {
+    pub answer: Answer,
+    pub hues: [u16; 16],
+}
+
+// Nothing is found.
+fn nothing() -> Chosen
+    ensures { λ r. ⌜ Gives r none ⌝ }
+{
+    Chosen {
+        answer: Answer::Nothing,
+        hues: [0u16; 16],
+    }
+}
+
+// The first refusal that applies to a pair, of 1, 3, 4, 5, 7 and 8. Rows of unequal length are refused as a ring without hues
+// is. No ring that is taken needs more room than 2160, so of the second row it is the entries alone that are left to be checked.
+fn check(a: &[f32], b: &[f32], floor: f32, k: usize, step: usize, room: usize) -> Checked
+    ensures { λ r. ⌜ checkSaid r ≡ rowsChecked k step floor (now (a .entry) ∷ now (b .entry) ∷ []) room (value tt) ⌝ }
+{
+    if a.len() != b.len() {
+        return placement::check(&a[0..0], floor, k, step, room);
+    }
+    let second = placement::check(b, floor, k, step, 2160);
+    match second {
+        Checked::Wrong(why) => Checked::Wrong(why),
+        Checked::Fine => placement::check(a, floor, k, step, room),
+    }
+}
+
+// Writes the lesser value at each hue of two rows, and gives the largest of these values.
+fn lesser_row(a: &[f32], b: &[f32], row: &mut [f32]) -> f32
+    requires { ⌜ (length (now a) ≡ length (now row)) × (length (now b) ≡ length (now row)) ⌝ }
+    ensures { λ r. ⌜ (now (row .exit) ≡ leastRow (now (a .entry) ∷ now (b .entry) ∷ [])) × (r ≡ largest (now (row .exit))) ⌝ }
+{
+    let mut most: f32 = 0.0;
+    let mut i = 0;
+    while i < row.len() {
+        let x = a[i];
+        let y = b[i];
+        let value = if y < x { y } else { x };
+        row[i] = value;
+        if most < value {
+            most = value;
+        }
+        i += 1;
+    }
+    most
+}
+
+// A chroma with its hues.
+fn found(chroma: f32, hues: [u16; 16]) -> Chosen
+    ensures { λ r. ⌜ Gives r (found chroma hues) ⌝ }
+{
+    Chosen {
+        answer: Answer::Found(chroma),
+        hues,
+    }
+}
+
+// The best over a row of values whose largest is `most`, from a floor. A round whose midpoint is an end and moves nothing is
+// followed only by rounds like it, so it is the last.
+fn climb(row: &[f32], k: usize, step: usize, floor: f32, most: f32, work: &mut [u16]) -> Chosen
+    requires { ⌜ Ready k step floor most (now row) (length (now work)) ⌝ }
+    ensures { λ r. ⌜ Gives r (bestOver k step floor (now (row .entry))) ⌝ }
+{
+    let first = placement::feasible(row, floor, k, step, work);
+    let answer = first.answer;
+    if !placement::is_placed(answer) {
+        return nothing();
+    }
+    let mut hues = first.hues;
+    let mut lo = floor;
+    let mut hi = most;
+    let mut i: u32 = 0;
+    while i < 30 {
+        let mid = halving::midpoint(lo, hi);
+        if f32::to_bits(mid) == f32::to_bits(lo) {
+            return found(lo, hues);
+        }
+        let next = placement::feasible(row, mid, k, step, work);
+        let moved = next.answer;
+        if placement::is_placed(moved) {
+            lo = mid;
+            hues = next.hues;
+        } else {
+            if f32::to_bits(mid) == f32::to_bits(hi) {
+                return found(lo, hues);
+            }
+            hi = mid;
+        }
+        i += 1;
+    }
+    found(lo, hues)
+}
+
+// The best of two rows that are taken.
+fn best(a: &[f32], b: &[f32], k: usize, step: usize, floor: f32, work: &mut [u16]) -> Chosen
+    requires { ⌜ Taken k step floor (now a ∷ now b ∷ []) (length (now work)) ⌝ }
+    ensures { λ r. ⌜ Gives r (bestOver k step floor (leastRow (now (a .entry) ∷ now (b .entry) ∷ []))) ⌝ }
+{
+    let mut least = [0.0f32; 720];
+    let n = a.len();
+    let most = lesser_row(a, b, &mut least[0..n]);
+    if most < floor {
+        return nothing();
+    }
+    climb(&least[0..n], k, step, floor, most, work)
+}
+
+// The best chroma from a floor up at which k hues, at least `step` apart all round, have an entry of at least it in both rows, by
+// 30 halvings. The work buffer's content is left free where the call is accepted, and does not matter.
+pub fn best_for_levels(
+    a: &[f32],
+    b: &[f32],
+    k: usize,
+    step: usize,
+    floor: f32,
+    work: &mut [u16],
+) -> Chosen
+    ensures { λ r. ⌜ (answers (r .answer) (r .hues) ≡ pairSays k step floor (now (a .entry)) (now (b .entry)) (length (now (work .entry)))) × (r .hues ≡ huesBeside (pairSays k step floor (now (a .entry)) (now (b .entry)) (length (now (work .entry))))) ⌝ }
+    ensures { λ r. ⌜ ((w : ℕ) → pairSays k step floor (now (a .entry)) (now (b .entry)) (length (now (work .entry))) ≡ refused w → now (work .exit) ≡ now (work .entry)) ⌝ }
+{
+    let checked = check(a, b, floor, k, step, work.len());
+    match checked {
+        Checked::Wrong(why) => Chosen {
+            answer: Answer::Refused(why),
+            hues: [0u16; 16],
+        },
+        Checked::Fine => best(a, b, k, step, floor, work),
+    }
+}
