@@ -10,7 +10,7 @@ use native.Mathlib.Omega.{arith}
 use lib.Dec.{T, leb}
 use lib.Pow.{pow-add, pow-pos, pow-mono}
 use lib.Ieee.{Float, binary32, ofBits, toBits, fits, le, ofInt}
-use borrow.Author.Tests.{leb-true}
+use borrow.Author.Tests.{leb-true, le-leb}
 use Rattle.limits.specs.Taken.{f32Of, upTo}
 use Rattle.halving.specs.Midpoint.{halved}
 use Rattle.halving.specs.Patterns.{worth, next}
@@ -173,19 +173,31 @@ module _ (ok : Float → Bool) (lo hi : Float) (F : T (fits binary32 lo)) (G : T
           let b : toBits binary32 (ofBits binary32 (e .low)) ≡ e .low = bits-of (e .low) (omega arith) in
           inr (ap (ofBits binary32) (z ∙ ap suc (sym b)))
 
-  -- both ends are f32 from plus 0 to 200 still
-  pub end-plain : (Plain (halved ok 30 lo hi .0) × Plain (halved ok 30 lo hi .1)) × (toBits binary32 (halved ok 30 lo hi .0) ≤ 1128792064)
-  end-plain = subst (λ (e : Float × Float). (Plain (e .0) × Plain (e .1)) × (toBits binary32 (e .0) ≤ 1128792064)) (sym (patterns ∙ e .is)) plain
-    where
-      e : Ended ok 30 p q
-      e = narrowing ok p q ordered (taken-plain hi G H .1) .0
+  -- both ends are f32 from plus 0 to 200 still, and lo has not gone down
+  ended : Ended ok 30 p q
+  ended = narrowing ok p q ordered (taken-plain hi G H .1) .0
 
-      plain : (Plain (ofBits binary32 (e .low)) × Plain (ofBits binary32 (e .high))) × (toBits binary32 (ofBits binary32 (e .low)) ≤ 1128792064)
+  low-end : toBits binary32 (ofBits binary32 (ended .low)) ≡ ended .low
+  low-end =
+      let x = ended .below in
+      let o' = ended .ordered in
+      let y = taken-plain hi G H .1 in
+      bits-of (ended .low) (omega arith)
+
+  pub end-plain : (Plain (halved ok 30 lo hi .0) × Plain (halved ok 30 lo hi .1)) × (toBits binary32 (halved ok 30 lo hi .0) ≤ 1128792064)
+  end-plain = subst (λ (e : Float × Float). (Plain (e .0) × Plain (e .1)) × (toBits binary32 (e .0) ≤ 1128792064)) (sym (patterns ∙ ended .is)) plain
+    where
+      plain : (Plain (ofBits binary32 (ended .low)) × Plain (ofBits binary32 (ended .high))) × (toBits binary32 (ofBits binary32 (ended .low)) ≤ 1128792064)
       plain =
-          let x = e .below in
-          let o' = e .ordered in
+          let x = ended .below in
+          let o' = ended .ordered in
           let y = taken-plain hi G H .1 in
-          ((pattern-plain (e .low) (omega arith), pattern-plain (e .high) (omega arith)), subst (λ (z : ℕ). z ≤ 1128792064) (sym (bits-of (e .low) (omega arith))) (omega arith))
+          ((pattern-plain (ended .low) (omega arith), pattern-plain (ended .high) (omega arith)), subst (λ (z : ℕ). z ≤ 1128792064) (sym low-end) (omega arith))
+
+  pub end-above : le lo (halved ok 30 lo hi .0) ≡ true
+  end-above =
+      le-plain lo (halved ok 30 lo hi .0) (taken-plain lo F L .0) (end-plain .0 .0)
+      ∙ le-leb p (toBits binary32 (halved ok 30 lo hi .0)) (subst (λ (e : Float × Float). p ≤ toBits binary32 (e .0)) (sym (patterns ∙ ended .is)) (subst (λ (z : ℕ). p ≤ z) (sym low-end) (ended .above)))
 
   pub end-width : Within (2 ^ 134) (halved ok 30 lo hi)
   end-width = subst (Within (2 ^ 134)) (sym (patterns ∙ e .is)) near

@@ -3,7 +3,7 @@ use mathlib.Core.Path.{_≡_, refl, sym, ap, _∙_, subst}
 use mathlib.Core.Logic.{_⊎_, inl, inr}
 use mathlib.Core.Bool.{Bool, true, false, not, _&&_, _||_, true≢false}
 use Prim.Native.Nat.{ℕ, suc, _+_, _-_, _*_, _^_, _≤_, _<_}
-use native.Mathlib.Nat.{le-trans, le-of-eq, le-antisymm, lt-of-not-le, not-le-of-lt, mul-assoc, mul-right-comm, mul-le-mul-right, le-of-mul-le-mul-right}
+use native.Mathlib.Nat.{le-trans, le-of-eq, le-antisymm, lt-of-not-le, not-le-of-lt, mul-assoc, mul-right-comm, mul-le-mul-right, mul-lt-mul-of-pos-right, le-of-mul-le-mul-right}
 use native.Mathlib.Omega.{arith}
 use lib.IntN.{ℤ}
 use lib.Dec.{T, leb, ltb, eqb}
@@ -23,13 +23,13 @@ use Rattle.halving.proofs.Midway.{Units}
 use Rattle.halving.proofs.Range.{UpTo, taken-up-to}
 use Rattle.halving.proofs.Width.{worth-lt}
 
--- ---- two numbers of units, by their fractions
-module _ (m n a b : ℕ) (e d : ℤ) (p : m * up e * 2 ^ 149 ≡ a * down e) (q : n * up d * 2 ^ 149 ≡ b * down d) where
-  fractions-le : a ≤ b → m * up e * down d ≤ n * up d * down e
-  fractions-le h = transfer (m * up e) (n * up d) (down e) (down d) a b (2 ^ 149) (2 ^ 149) (pow-pos 149) (pow-pos 149) p q (mul-le-mul-right (2 ^ 149) h)
+-- ---- two numbers by the fractions a / c and b / d that they equal
+module _ (m n a c b d : ℕ) (e f : ℤ) (C : 0 < c) (D : 0 < d) (p : m * up e * c ≡ a * down e) (q : n * up f * d ≡ b * down f) where
+  own-le : a * d ≤ b * c → m * up e * down f ≤ n * up f * down e
+  own-le h = transfer (m * up e) (n * up f) (down e) (down f) a b c d C D p q h
 
-  units-le : m * up e * down d ≤ n * up d * down e → a ≤ b
-  units-le h = le-of-mul-le-mul-right (transfer a b (2 ^ 149) (2 ^ 149) (m * up e) (n * up d) (down e) (down d) (down-pos e) (down-pos d) (sym p) (sym q) h) (pow-pos 149)
+  fractions-le : m * up e * down f ≤ n * up f * down e → a * d ≤ b * c
+  fractions-le h = transfer a b c d (m * up e) (n * up f) (down e) (down f) (down-pos e) (down-pos f) (sym p) (sym q) h
 
 -- the same by tests
 tests : (P Q a b : ℕ) → (a ≤ b → P ≤ Q) → (P ≤ Q → a ≤ b) → (b ≤ a → Q ≤ P) → (Q ≤ P → b ≤ a) → (ltb P Q ≡ ltb a b) × ((ltb P Q || (eqb P Q && true)) ≡ leb a b)
@@ -52,22 +52,18 @@ tests P Q a b f g h k = elim (below-or-not a b) [ inl l ↦ less l | inr l ↦ m
             equal : a ≤ b → (eqb P Q && true) ≡ leb a b
             equal z = ap (λ (t : Bool). t && true) (eq-eqb P Q (le-antisymm (f z) (h l))) ∙ sym (le-leb a b z)
 
-module _ (x y : Float) (a b : ℕ) where
-  compared : Units x a → Units y b → (lt x y ≡ ltb a b) × (le x y ≡ leb a b)
-  unfolding le lt eq
-  compared v w = go x y v w
-    where
-      go : (x y : Float) → Units x a → Units y b → (lt x y ≡ ltb a b) × (le x y ≡ leb a b)
-      go nan y v w = absurd v
-      go (inf s) y v w = absurd v
-      go (fin true m e) y v w = absurd (true≢false (v .0))
-      go (fin false m e) nan v w = absurd w
-      go (fin false m e) (inf t) v w = absurd w
-      go (fin false m e) (fin true n d) v w = absurd (true≢false (w .0))
-      go (fin false m e) (fin false n d) v w =
-          tests (m * up e * down d) (n * up d * down e) a b
-          (fractions-le m n a b e d (v .1) (w .1)) (units-le m n a b e d (v .1) (w .1))
-          (fractions-le n m b a d e (w .1) (v .1)) (units-le n m b a d e (w .1) (v .1))
+pub compared : (x y : Float) (a c b d : ℕ) → 0 < c → 0 < d → HasValue x false a c → HasValue y false b d → (lt x y ≡ ltb (a * d) (b * c)) × (le x y ≡ leb (a * d) (b * c))
+unfolding le lt eq
+compared nan y a c b d C D v w = absurd v
+compared (inf s) y a c b d C D v w = absurd v
+compared (fin true m e) y a c b d C D v w = absurd (true≢false (v .0))
+compared (fin false m e) nan a c b d C D v w = absurd w
+compared (fin false m e) (inf t) a c b d C D v w = absurd w
+compared (fin false m e) (fin true n f) a c b d C D v w = absurd (true≢false (w .0))
+compared (fin false m e) (fin false n f) a c b d C D v w =
+    tests (m * up e * down f) (n * up f * down e) (a * d) (b * c)
+    (own-le m n a c b d e f C D (v .1) (w .1)) (fractions-le m n a c b d e f C D (v .1) (w .1))
+    (own-le n m b d a c f e D C (w .1) (v .1)) (fractions-le n m b d a c f e D C (w .1) (v .1))
 
 -- ---- such an f32 with its pattern
 pub record Plain (x : Float) : Type 0 where
@@ -80,16 +76,16 @@ plain-is x p = ofBits-toBits binary32 x (p .f32)
 pub plain-units : (x : Float) → Plain x → Units x (worth (toBits binary32 x))
 plain-units x p = subst (λ (y : Float). Units y (worth (toBits binary32 x))) (plain-is x p) (pattern-value (toBits binary32 x) (p .under))
 
-worth-tests : (a b : ℕ) → (ltb (worth a) (worth b) ≡ ltb a b) × (leb (worth a) (worth b) ≡ leb a b)
-worth-tests a b = elim (below-or-not a b) [
-  | inl l ↦ (lt-ltb (worth a) (worth b) (worth-lt l) ∙ sym (lt-ltb a b l), le-leb (worth a) (worth b) (worth-le (omega arith)) ∙ sym (le-leb a b (omega arith)))
-  | inr l ↦ (le-ltb (worth a) (worth b) (worth-le l) ∙ sym (le-ltb a b l), same l)
-]
+worth-tests : (a b u : ℕ) → 0 < u → (ltb (worth a * u) (worth b * u) ≡ ltb a b) × (leb (worth a * u) (worth b * u) ≡ leb a b)
+worth-tests a b u U = elim (below-or-not a b) [ inl l ↦ less l | inr l ↦ (le-ltb (worth a * u) (worth b * u) (mul-le-mul-right u (worth-le l)) ∙ sym (le-ltb a b l), same l) ]
   where
-    same : b ≤ a → leb (worth a) (worth b) ≡ leb a b
+    less : a < b → (ltb (worth a * u) (worth b * u) ≡ ltb a b) × (leb (worth a * u) (worth b * u) ≡ leb a b)
+    less l = (lt-ltb (worth a * u) (worth b * u) (mul-lt-mul-of-pos-right (worth-lt l) U) ∙ sym (lt-ltb a b l), le-leb (worth a * u) (worth b * u) (mul-le-mul-right u (worth-le (omega arith))) ∙ sym (le-leb a b (omega arith)))
+
+    same : b ≤ a → leb (worth a * u) (worth b * u) ≡ leb a b
     same l = elim (below-or-not b a) [
-      | inl z ↦ lt-leb (worth a) (worth b) (worth-lt z) ∙ sym (lt-leb a b z)
-      | inr z ↦ le-leb (worth a) (worth b) (worth-le z) ∙ sym (le-leb a b z)
+      | inl z ↦ lt-leb (worth a * u) (worth b * u) (mul-lt-mul-of-pos-right (worth-lt z) U) ∙ sym (lt-leb a b z)
+      | inr z ↦ le-leb (worth a * u) (worth b * u) (mul-le-mul-right u (worth-le z)) ∙ sym (le-leb a b z)
     ]
 
 module _ (x y : Float) (p : Plain x) (q : Plain y) where
@@ -100,10 +96,10 @@ module _ (x y : Float) (p : Plain x) (q : Plain y) where
   b = toBits binary32 y
 
   pub lt-plain : lt x y ≡ ltb a b
-  lt-plain = compared x y (worth a) (worth b) (plain-units x p) (plain-units y q) .0 ∙ worth-tests a b .0
+  lt-plain = compared x y (worth a) (2 ^ 149) (worth b) (2 ^ 149) (pow-pos 149) (pow-pos 149) (plain-units x p) (plain-units y q) .0 ∙ worth-tests a b (2 ^ 149) (pow-pos 149) .0
 
   pub le-plain : le x y ≡ leb a b
-  le-plain = compared x y (worth a) (worth b) (plain-units x p) (plain-units y q) .1 ∙ worth-tests a b .1
+  le-plain = compared x y (worth a) (2 ^ 149) (worth b) (2 ^ 149) (pow-pos 149) (pow-pos 149) (plain-units x p) (plain-units y q) .1 ∙ worth-tests a b (2 ^ 149) (pow-pos 149) .1
 
 -- ---- the order
 pub le-through : (x y z : Float) → Plain x → Plain y → Plain z → le x y ≡ true → le y z ≡ true → le x z ≡ true
@@ -206,3 +202,11 @@ module _ (x : Float) (p : Plain x) (u : toBits binary32 x < 2139095039) where
 
   pub next-above : lt x (next x) ≡ true
   next-above = lt-plain x (next x) p next-plain ∙ lt-ltb (toBits binary32 x) (toBits binary32 (next x)) (let e = next-bits in omega arith)
+
+-- a greater f32 has a greater one after it
+pub next-le : (x y : Float) (p : Plain x) (q : Plain y) (u : toBits binary32 x < 2139095039) (w : toBits binary32 y < 2139095039) → le x y ≡ true → le (next x) (next y) ≡ true
+next-le x y p q u w h =
+    let a : toBits binary32 x ≤ toBits binary32 y = leb-true (toBits binary32 x) (toBits binary32 y) (sym (le-plain x y p q) ∙ h) in
+    let e = next-bits x p u in
+    let f = next-bits y q w in
+    le-plain (next x) (next y) (next-plain x p u) (next-plain y q w) ∙ le-leb (toBits binary32 (next x)) (toBits binary32 (next y)) (omega arith)

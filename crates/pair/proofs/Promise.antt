@@ -18,9 +18,9 @@ use Rattle.halving.specs.Midpoint.{halved, halve}
 use Rattle.halving.specs.Patterns.{next}
 use Rattle.halving.specs.Ends.{Closed}
 use Rattle.halving.proofs.Halve.{kept}
-use Rattle.halving.proofs.Range.{up-to-taken}
+use Rattle.halving.proofs.Range.{halve-up-to, taken-up-to, up-to-taken}
 use Rattle.halving.proofs.Plain.{Plain, le-through, not-lt-le, not-le-lt, le-not-lt, lt-then-le, taken-plain, next-plain, next-above}
-use Rattle.halving.proofs.EndState.{end-state, end-plain}
+use Rattle.halving.proofs.EndState.{end-state, end-plain, end-above}
 use Rattle.placement.specs.Ring.{Places, nowhere, placed, placement}
 use Rattle.placement.specs.Placing.{allowedAt, workNeeded, sixteen, stores, checkedRing}
 use Rattle.placement.specs.Spacing.{Spaced}
@@ -165,8 +165,19 @@ module _ (k step : ℕ) (floor : Float) (rows : List (List Float)) (some-hue : 1
           first : take k (stores (replicate 16 0) 0 js) ≡ js
           first = ap (λ (m : ℕ). take m (stores (replicate 16 0) 0 js)) (sym (spaced .count)) ∙ first-stored (replicate 16 0) js (let c = spaced .count in omega arith)
 
-      last-placed : ok (ends .0) ≡ true
-      last-placed = kept ok 30 floor most placed-there .0
+      pub above-floor : le floor (ends .0) ≡ true
+      unfolding chromaTaken
+      above-floor = end-above ok floor most F (most-plain rows lengths entries f32 .f32) taken most-taken floor-most
+
+      pub end-taken : chromaTaken (ends .0) ≡ true
+      unfolding chromaTaken halve
+      end-taken = up-to-taken 200 (ends .0) (omega arith) (halve-up-to 200 ok 30 floor most (omega arith) (taken-up-to 200 floor (omega arith) taken) (taken-up-to 200 most (omega arith) most-taken))
+
+      pub placed-hues : (js : List ℕ) → placedAt k step row (ends .0) ≡ placed js → Hues n k step js
+      placed-hues js e = spaced-hues rows lengths entries f32 (ends .0) (ends-plain .0 .0) k step js (is-placed (ends .0) js e)
+
+      pub end-f32 : F32 (ends .0)
+      end-f32 = ends-plain .0 .0 .f32
 
 -- ---- the best over rows that are taken, by its cases
 module _ (k step : ℕ) (floor : Float) (row : List Float) where
@@ -249,6 +260,29 @@ module _ (k step : ℕ) (floor : Float) (rows : List (List Float)) (room : ℕ) 
       subst (λ (x : Float). Limit k step rows x hues) (f .chroma)
       (subst (Limit k step rows (last k step floor (leastRow rows))) (f .handed)
       (is-limit k step floor rows (s .some-hue) (s .few-hues) (s .some-step) (s .within) (s .lengths) (s .entries) f32 F (s .taken) (f .reaches) (f .starts) from (f .indices) (f .there)))
+
+  -- what is handed out, from any floor: a chroma from the floor to 200, and sixteen hues of which the first k are spaced and the others zero
+  pub record Handed (c : Float) (hues : List ℕ) : Type 0 where
+    pub f32-is : F32 c
+    pub in-range : chromaTaken c ≡ true
+    pub above : le floor c ≡ true
+    pub indices : List ℕ
+    pub stored : stores (replicate 16 0) 0 indices ≡ hues
+    pub spaced : Hues (ringLength rows) k step indices
+
+  pub what-is-handed : (c : Float) (hues : List ℕ) → rowsSay k step floor rows room ≡ value (found c hues) → Handed c hues
+  unfolding halve
+  what-is-handed c hues h =
+      let s = said (found c hues) h in
+      let f = found-is k step floor (leastRow rows) c hues (s .is) in
+      subst (λ (x : Float). Handed x hues) (f .chroma) (record {
+        f32-is = end-f32 k step floor rows (s .some-hue) (s .few-hues) (s .some-step) (s .within) (s .lengths) (s .entries) f32 F (s .taken) (f .reaches) (f .starts);
+        in-range = end-taken k step floor rows (s .some-hue) (s .few-hues) (s .some-step) (s .within) (s .lengths) (s .entries) f32 F (s .taken) (f .reaches) (f .starts);
+        above = above-floor k step floor rows (s .some-hue) (s .few-hues) (s .some-step) (s .within) (s .lengths) (s .entries) f32 F (s .taken) (f .reaches) (f .starts);
+        indices = f .indices;
+        stored = f .handed;
+        spaced = placed-hues k step floor rows (s .some-hue) (s .few-hues) (s .some-step) (s .within) (s .lengths) (s .entries) f32 F (s .taken) (f .reaches) (f .starts) (f .indices) (f .there);
+      })
 
   pub none-is-none : rowsSay k step floor rows room ≡ value none → Below k step rows floor
   unfolding halve
