@@ -1,10 +1,12 @@
-//! Times the filling of a whole gamut table, and placements on rings of it, by our archive
-//! and by the published Rust, in turns. See compare/README.md.
+//! Times the filling of a whole gamut table, placements on rings of it, and pairs of its rows,
+//! by our archive and by the published Rust, in turns. See compare/README.md.
 
 mod big;
 mod chroma; // max_chroma and l_of, taken from the published file by compare/build
 #[allow(dead_code)]
 mod color; // the published file, patched by compare/build
+#[allow(dead_code)]
+mod pairing; // best_for_levels and its table, taken from the published file by compare/build
 mod palette; // the white point, taken from the published file by compare/build
 mod placing; // feasible, place_from and the step, taken from the published file by compare/build
 #[allow(dead_code)]
@@ -13,12 +15,18 @@ mod standins;
 use standins::{BAD_DIRECTIONS, BAD_LEVEL, BAD_ROW, DIRECTIONS, LEVELS};
 use std::time::Instant;
 
-/// How many times each side fills its table, and makes all placements.
+/// How many times each side fills its table, makes all placements, and searches all pairs.
 const TURNS: usize = 41;
 /// What each hue is before a placement.
 const BEFORE: u16 = 4711;
-/// What our archive gives where there is no placement.
+/// What the chroma is before a pair.
+const BEFORE_CHROMA: f32 = 47.11;
+/// What our archive gives where there is no placement, or no chroma is found.
 const NONE: u32 = 255;
+/// The floor of each pair.
+const FLOOR: f32 = 35.0;
+/// How many levels the two of a pair lie apart at least: 41 units of lightness.
+const APART: usize = 82;
 
 unsafe extern "C" {
     /// The function of crates/exports: a slice is its address, then its length.
@@ -41,6 +49,20 @@ unsafe extern "C" {
         work: *mut u16,
         room: usize,
         hues: *mut [u16; 16],
+    ) -> u32;
+    /// The same, with a chroma to write too.
+    fn tengcuvo_best(
+        a: *const f32,
+        entries_a: usize,
+        b: *const f32,
+        entries_b: usize,
+        k: usize,
+        step: usize,
+        floor: f32,
+        work: *mut u16,
+        room: usize,
+        hues: *mut [u16; 16],
+        chroma: *mut [f32; 1],
     ) -> u32;
 }
 
@@ -268,10 +290,140 @@ fn placements(table: &[f32]) {
     println!("all placements are equal, {placed} of them with hues");
 }
 
-/// Tries the refusals, then times both parts.
+/// A pair to be searched: of which levels, for how many hues, how far apart, from which floor.
+struct Pair {
+    dark: usize,
+    light: usize,
+    k: usize,
+    step: usize,
+    floor: f32,
+}
+
+/// Pairs of levels that lie far enough apart, for 1 to 8 hues with their step.
+fn pairs() -> Vec<Pair> {
+    let mut pairs = vec![];
+    for dark in (0..LEVELS - APART).step_by(6) {
+        for light in (dark + APART..LEVELS).step_by(6) {
+            pairs.extend((1..=8).map(|k| Pair {
+                dark,
+                light,
+                k,
+                step: placing::step(k),
+                floor: FLOOR,
+            }));
+        }
+    }
+    pairs
+}
+
+/// What a pair gives: the number, the hues, and the bits of the chroma.
+type Best = (u32, [u16; 16], u32);
+
+/// Searches a pair of rows by our archive.
+fn best(a: &[f32], b: &[f32], pair: &Pair, work: &mut [u16]) -> Best {
+    let mut hues = [BEFORE; 16];
+    let mut chroma = [BEFORE_CHROMA];
+    let (address, room) = (work.as_mut_ptr(), work.len());
+    // What is lent lives through the call, and nothing that is written is lent twice.
+    let number = unsafe {
+        tengcuvo_best(
+            a.as_ptr(),
+            a.len(),
+            b.as_ptr(),
+            b.len(),
+            pair.k,
+            pair.step,
+            pair.floor,
+            address,
+            room,
+            &mut hues,
+            &mut chroma,
+        )
+    };
+    (number, hues, chroma[0].to_bits())
+}
+
+/// Checks that our archive refuses what it must, with all that it is lent then as before.
+fn pair_refusals() {
+    let (row, bad) = ([40.0; 8], [f32::NAN; 8]);
+    for (number, a, b, k, step, floor, room) in [
+        (1, &row[..], &row[..], 17, 2, FLOOR, 24),
+        (3, &row, &row, 2, 2, -0.0, 24),
+        (4, &row, &row[..7], 2, 2, FLOOR, 24),
+        (4, &row[..0], &row[..0], 2, 2, FLOOR, 24),
+        (5, &row, &row, 2, usize::MAX, FLOOR, 24),
+        (7, &bad, &row, 2, 2, FLOOR, 24),
+        (7, &row, &bad, 2, 2, FLOOR, 24),
+        (8, &row, &row, 2, 2, FLOOR, 23),
+    ] {
+        let pair = Pair {
+            dark: 0,
+            light: 0,
+            k,
+            step,
+            floor,
+        };
+        let mut work = vec![BEFORE; room];
+        let given = best(a, b, &pair, &mut work);
+        let expected = (number, [BEFORE; 16], BEFORE_CHROMA.to_bits());
+        assert!(given == expected, "not refused by {number}");
+        assert!(
+            work.iter().all(|v| *v == BEFORE),
+            "a refused buffer is changed"
+        );
+    }
+}
+
+/// What our archive must give where the published Rust gives this.
+fn expected(theirs: &Option<(f32, Vec<usize>)>) -> Best {
+    let mut hues = [0; 16];
+    let Some((chroma, given)) = theirs else {
+        return (NONE, hues, BEFORE_CHROMA.to_bits());
+    };
+    for (hue, to) in given.iter().zip(&mut hues) {
+        *to = *hue as u16;
+    }
+    (0, hues, chroma.to_bits())
+}
+
+/// Searches all pairs by both sides, and compares what they give.
+fn bests(table: &[f32]) {
+    let pairs = pairs();
+    let row = |level: usize| &table[level * DIRECTIONS..][..DIRECTIONS];
+    let gamut = pairing::over(LEVELS, DIRECTIONS, table.to_vec());
+    let mut work = vec![0; 3 * DIRECTIONS];
+    let (mut one, mut other) = (vec![], vec![]);
+    compare(
+        &format!("{} pairs of rows", pairs.len()),
+        [
+            &mut || {
+                let given = pairs
+                    .iter()
+                    .map(|p| best(row(p.dark), row(p.light), p, &mut work));
+                one = given.collect();
+            },
+            &mut || {
+                let given = pairs.iter().map(|p| {
+                    pairing::best_for_levels(&gamut, p.dark, p.light, p.k, p.step, p.floor)
+                });
+                other = given.collect();
+            },
+        ],
+    );
+    let found = other.iter().flatten().count();
+    for (ours, theirs) in one.iter().zip(&other) {
+        assert!(*ours == expected(theirs), "a pair differs");
+    }
+    println!("all pairs are equal bit for bit, {found} of them with a chroma");
+}
+
+/// Tries the refusals, then times the three parts.
 fn main() {
     let (cos, sin) = standins::directions();
     refusals(&cos, &sin);
     placement_refusals();
-    placements(&tables(&cos, &sin));
+    pair_refusals();
+    let table = tables(&cos, &sin);
+    placements(&table);
+    bests(&table);
 }

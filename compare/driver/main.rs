@@ -10,6 +10,10 @@ mod color; // the published file, patched by compare/build
 mod gamut;
 mod gamut_lists;
 mod lists;
+mod pair;
+mod pair_lists;
+#[allow(dead_code)]
+mod pairing; // best_for_levels and its table, taken from the published file by compare/build
 mod palette; // the white point, taken from the published file by compare/build
 mod placement;
 mod placement_lists;
@@ -45,6 +49,11 @@ fn main() -> ExitCode {
             (Ok(seed), Ok(count)) => placement_lists::many(&mut out, seed, count),
             _ => return usage(),
         },
+        ["pair-list"] => pair_lists::fixed(&mut out),
+        ["pair-many", seed, count] => match (seed.parse(), count.parse()) {
+            (Ok(seed), Ok(count)) => pair_lists::many(&mut out, seed, count),
+            _ => return usage(),
+        },
         ["tables"] => tables(&mut out),
         ["check"] => check::all(&mut out),
         _ => return usage(),
@@ -63,6 +72,7 @@ fn usage() -> ExitCode {
     eprintln!("usage: driver list | many SEED COUNT | tables | check");
     eprintln!("       driver gamut-list | gamut-all | gamut-many SEED COUNT");
     eprintln!("       driver placement-list | placement-all | placement-many SEED COUNT");
+    eprintln!("       driver pair-list | pair-many SEED COUNT");
     ExitCode::from(2)
 }
 

@@ -24,7 +24,7 @@ enum Answer {
     Refused(u32),
 }
 
-/// What a placement is asked, besides the ring.
+/// What a placement is asked, besides the ring, or a pair, besides its rows.
 #[derive(Clone, Copy)]
 pub struct Call {
     pub k: u32,
@@ -38,15 +38,17 @@ fn takes(v: f32) -> bool {
     !v.is_nan() && v.is_sign_positive() && v <= 200.0
 }
 
-/// The number of the first refusal that applies, in the order of document 01.
-fn refusal(ring: &[f32], call: Call) -> Option<u32> {
-    let (n, step) = (ring.len(), call.step as usize);
+/// The number of the first refusal that applies to a call on these rows, in the order of
+/// document 01; a ring is one row.
+pub fn refusal(rows: &[&[f32]], call: Call) -> Option<u32> {
+    let (n, step) = (rows[0].len(), call.step as usize);
+    let alike = rows.iter().all(|row| row.len() == n);
     let asked = [
         (BAD_HUE_COUNT, (1..=16).contains(&call.k)),
         (BAD_CHROMA, takes(call.c)),
-        (BAD_LENGTH, (1..=720).contains(&n)),
+        (BAD_LENGTH, alike && (1..=720).contains(&n)),
         (BAD_SPACING, 1 <= step && step <= n),
-        (BAD_ENTRY, ring.iter().copied().all(takes)),
+        (BAD_ENTRY, rows.concat().into_iter().all(takes)),
         (BAD_WORK, 3 * n <= call.room),
     ];
     asked
@@ -57,7 +59,7 @@ fn refusal(ring: &[f32], call: Call) -> Option<u32> {
 
 /// The answer: a refusal, or what the published Rust gives.
 fn answer(ring: &[f32], call: Call) -> Answer {
-    if let Some(number) = refusal(ring, call) {
+    if let Some(number) = refusal(&[ring], call) {
         return Answer::Refused(number);
     }
     let (k, step) = (call.k as usize, call.step as usize);

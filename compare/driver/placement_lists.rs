@@ -8,7 +8,7 @@ use std::io::{self, Write};
 /// The ring of document 01's marked cases.
 const MARKED: [f32; 8] = [50.0, 10.0, 45.0, 20.0, 60.0, 30.0, 41.0, 12.0];
 /// Chromas and entries that are refused.
-const REFUSED: [f32; 8] = [
+pub const REFUSED: [f32; 8] = [
     f32::NAN,
     f32::INFINITY,
     f32::NEG_INFINITY,
@@ -19,7 +19,7 @@ const REFUSED: [f32; 8] = [
     f32::MAX,
 ];
 /// Chromas and entries that are taken, at the ends and among subnormal numbers.
-const EDGES: [f32; 7] = [
+pub const EDGES: [f32; 7] = [
     0.0,
     1e-45,
     3e-45,
@@ -29,7 +29,7 @@ const EDGES: [f32; 7] = [
     200.0,
 ];
 /// Hue counts, refused ones among them; some are taken where their high bits get lost.
-const COUNTS: [u32; 10] = [0, 1, 2, 15, 16, 17, 257, 65536, 65537, u32::MAX];
+pub const COUNTS: [u32; 10] = [0, 1, 2, 15, 16, 17, 257, 65536, 65537, u32::MAX];
 /// The entries of the rings that are swept.
 const VALUES: [f32; 3] = [12.0, 40.0, 40.5];
 
@@ -274,14 +274,14 @@ fn sweep_all(list: &mut Placements, most: u32) -> io::Result<()> {
 }
 
 /// A hue count and a spacing that leave little room on a ring of this length.
-fn tight(random: &mut Random, n: usize) -> (usize, usize) {
+pub fn tight(random: &mut Random, n: usize) -> (usize, usize) {
     let k = random.below(n.min(16)) + 1;
     let step = (n / k).saturating_sub(random.below(3));
     (k, step.max(1))
 }
 
 /// Entries of which those at a hidden placement are allowed at c, and others now and then.
-fn hidden(random: &mut Random, n: usize, k: usize, step: usize, c: f32) -> Vec<f32> {
+pub fn hidden(random: &mut Random, n: usize, k: usize, step: usize, c: f32) -> Vec<f32> {
     let rare = random.pick(&[2, 8, 64, 100_000]);
     let mut ring: Vec<f32> = (0..n)
         .map(|_| match random.below(rare) {
@@ -300,7 +300,7 @@ fn hidden(random: &mut Random, n: usize, k: usize, step: usize, c: f32) -> Vec<f
 }
 
 /// Entries in runs, as a panel has them.
-fn runs(random: &mut Random, n: usize) -> Vec<f32> {
+pub fn runs(random: &mut Random, n: usize) -> Vec<f32> {
     let mut v = random.between(0.0, 100.0);
     let turn = random.below(30) + 1;
     (0..n)
@@ -343,7 +343,7 @@ fn random_ring(
 }
 
 /// Moves one part of a call a little, mostly.
-fn nudge(random: &mut Random, call: &mut Call, n: usize) {
+pub fn nudge(random: &mut Random, call: &mut Call, n: usize) {
     match random.below(8) {
         0 => call.k += 1,
         1 => call.k -= 1,

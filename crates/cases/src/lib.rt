@@ -5,6 +5,9 @@
 // 8 lowercase hexadecimal digits, with one space before each and a newline at the end.
 pub mod digest;
 pub mod directions;
+pub mod entries;
+pub mod hues;
+pub mod rubbish;
 
 ghost use mathlib.Core.Path.{_≡_};
 ghost use Prim.Native.Nat.{_≤_};

@@ -1,9 +1,12 @@
 -- What a call hands to a caller in another language, as one number. Definitions only.
 use Prim.Native.Nat.{ℕ}
-use mathlib.Core.List.{List}
+use mathlib.Core.List.{List, [], _∷_}
+use lib.Ieee.{Float}
 use Rattle.limits.specs.Answers.{Said, value, refused}
 use Rattle.placement.specs.Ring.{Places, nowhere, placed}
 use Rattle.placement.specs.Placing.{huesBeside}
+use Rattle.pair.specs.Pair as pair
+use Rattle.pair.specs.Pair.{Best, none, found}
 
 -- 0 where the call is accepted, else document 01's number of the refusal
 abbrev pub numberOf : {A : Type 0} → Said A → ℕ
@@ -20,3 +23,20 @@ placeNumber (refused n) = n
 abbrev pub huesAfter : Said Places → List ℕ → List ℕ
 huesAfter (value p) hues = huesBeside (value p)
 huesAfter (refused n) hues = hues
+
+-- 0 where a chroma is found, 255 where there is none, else document 01's number of the refusal
+abbrev pub bestNumber : Said Best → ℕ
+bestNumber (value (found c hues)) = 0
+bestNumber (value none) = 255
+bestNumber (refused n) = n
+
+-- the sixteen hues after a call that found this: written where it is accepted
+abbrev pub bestHues : Said Best → List ℕ → List ℕ
+bestHues (value best) hues = pair.huesBeside (value best)
+bestHues (refused n) hues = hues
+
+-- the one chroma after it: written where it is found
+abbrev pub bestChroma : Said Best → List Float → List Float
+bestChroma (value (found c hues)) chroma = c ∷ []
+bestChroma (value none) chroma = chroma
+bestChroma (refused n) chroma = chroma

@@ -7,8 +7,15 @@ ghost use Prim.Native.Nat.{ℕ};
 ghost use lib.ListN.{length};
 ghost use Rattle.limits.specs.Answers.{refused};
 ghost use Rattle.placement.specs.Placing.{placementSays};
+ghost use Rattle.pair.specs.Pair.{pairSays};
 ghost use Rattle.gamut.specs.Gamut.{fillSaid, fillSays, rowAfter};
-ghost use Rattle.exports.specs.Numbers.{numberOf, placeNumber, huesAfter};
+ghost use Rattle.exports.specs.Numbers.{numberOf, placeNumber, huesAfter, bestNumber, bestHues, bestChroma};
+
+// What is given where there is no placement.
+const NO_PLACEMENT: u32 = 255;
+
+// What is given where no chroma is found.
+const NO_CHROMA: u32 = 255;
 
 // An answer as one number.
 fn number_of(filling: Filling) -> u32
@@ -53,8 +60,42 @@ pub extern "C" fn tengcuvo_place(
         }
         Answer::Nowhere => {
             *hues = given;
-            255
+            NO_PLACEMENT
         }
         Answer::Refused(why) => why.number() as u32,
+    }
+}
+
+// The best chroma of two rows from a floor up, for k hues at least `step` apart all round: gives 0 with the chroma and sixteen
+// hues, 255 with zeros for hues and the chroma as before where there is none, or the number of a refusal, with the hues, the
+// chroma and the work buffer as before.
+#[no_mangle]
+pub extern "C" fn tengcuvo_best(
+    a: &[f32],
+    b: &[f32],
+    k: usize,
+    step: usize,
+    floor: f32,
+    work: &mut [u16],
+    hues: &mut [u16; 16],
+    chroma: &mut [f32; 1],
+) -> u32
+    ensures { λ r. ⌜ (r ≡ bestNumber (pairSays k step floor (now (a .entry)) (now (b .entry)) (length (now (work .entry))))) × ((now (hues .exit) ≡ bestHues (pairSays k step floor (now (a .entry)) (now (b .entry)) (length (now (work .entry)))) (now (hues .entry))) × (now (chroma .exit) ≡ bestChroma (pairSays k step floor (now (a .entry)) (now (b .entry)) (length (now (work .entry)))) (now (chroma .entry)))) ⌝ }
+    ensures { λ r. ⌜ ((w : ℕ) → pairSays k step floor (now (a .entry)) (now (b .entry)) (length (now (work .entry))) ≡ refused w → now (work .exit) ≡ now (work .entry)) ⌝ }
+{
+    let chosen = pair::best_for_levels(a, b, k, step, floor, work);
+    let answer = chosen.answer;
+    let given = chosen.hues;
+    match answer {
+        pair::Answer::Found(c) => {
+            *hues = given;
+            *chroma = [c];
+            0
+        }
+        pair::Answer::Nothing => {
+            *hues = given;
+            NO_CHROMA
+        }
+        pair::Answer::Refused(why) => why.number() as u32,
     }
 }

@@ -33,7 +33,7 @@ abbrev pub Units : Float → ℕ → Type 0
 Units x a = HasValue x false a (2 ^ 149)
 
 -- the same value as another fraction
-revalue : (x : Float) (a c b d : ℕ) → 0 < c → a * d ≡ b * c → HasValue x false a c → HasValue x false b d
+pub revalue : (x : Float) (a c b d : ℕ) → 0 < c → a * d ≡ b * c → HasValue x false a c → HasValue x false b d
 revalue nan a c b d C e v = v
 revalue (inf t) a c b d C e v = v
 revalue (fin t m k) a c b d C e v = (
@@ -47,22 +47,21 @@ units-once (inf t) a b v w = absurd v
 units-once (fin t m k) a b v w = eq-of-mul-eq-mul-right (down k) (down-pos k) a b (sym (v .1) ∙ w .1)
 
 -- ---- the two operations see only the values
-add-units : (x y : Float) (a b : ℕ) → Units x a → Units y b → add binary32 x y ≡ round binary32 false (a + b) (2 ^ 149)
+pub add-values : (x y : Float) (a b u : ℕ) → 0 < u → HasValue x false a u → HasValue y false b u → add binary32 x y ≡ round binary32 false (a + b) u
 unfolding add sum
-add-units nan y a b v w = absurd v
-add-units (inf s) y a b v w = absurd v
-add-units (fin true m e) y a b v w = absurd (true≢false (v .0))
-add-units (fin false m e) nan a b v w = absurd w
-add-units (fin false m e) (inf t) a b v w = absurd w
-add-units (fin false m e) (fin true n d) a b v w = absurd (true≢false (w .0))
-add-units (fin false m e) (fin false n d) a b v w =
-    let U = 2 ^ 149 in
+add-values nan y a b u P v w = absurd v
+add-values (inf s) y a b u P v w = absurd v
+add-values (fin true m e) y a b u P v w = absurd (true≢false (v .0))
+add-values (fin false m e) nan a b u P v w = absurd w
+add-values (fin false m e) (inf t) a b u P v w = absurd w
+add-values (fin false m e) (fin true n d) a b u P v w = absurd (true≢false (w .0))
+add-values (fin false m e) (fin false n d) a b u P v w =
     let A = m * up e * down d in
     let B = n * up d * down e in
-    let x : A * U ≡ a * (down e * down d) = mul-right-comm (m * up e) (down d) U ∙ ap (λ (z : ℕ). z * down d) (v .1) ∙ mul-assoc a (down e) (down d) in
-    let y : B * U ≡ b * (down e * down d) = mul-right-comm (n * up d) (down e) U ∙ ap (λ (z : ℕ). z * down e) (w .1) ∙ mul-assoc b (down d) (down e) ∙ ap (λ (z : ℕ). b * z) (mul-comm (down d) (down e)) in
-    round-same binary32 false (A + B) (down e * down d) (a + b) U (mul-pos (down-pos e) (down-pos d)) (pow-pos 149)
-    (add-mul A B U ∙ ap (λ (z : ℕ). z + B * U) x ∙ ap (λ (z : ℕ). a * (down e * down d) + z) y ∙ sym (add-mul a b (down e * down d)))
+    let x : A * u ≡ a * (down e * down d) = mul-right-comm (m * up e) (down d) u ∙ ap (λ (z : ℕ). z * down d) (v .1) ∙ mul-assoc a (down e) (down d) in
+    let y : B * u ≡ b * (down e * down d) = mul-right-comm (n * up d) (down e) u ∙ ap (λ (z : ℕ). z * down e) (w .1) ∙ mul-assoc b (down d) (down e) ∙ ap (λ (z : ℕ). b * z) (mul-comm (down d) (down e)) in
+    round-same binary32 false (A + B) (down e * down d) (a + b) u (mul-pos (down-pos e) (down-pos d)) P
+    (add-mul A B u ∙ ap (λ (z : ℕ). z + B * u) x ∙ ap (λ (z : ℕ). a * (down e * down d) + z) y ∙ sym (add-mul a b (down e * down d)))
 
 half-units : (z : Float) (a : ℕ) → Units z a → mul binary32 (round binary32 false 1 2) z ≡ round binary32 false a (2 ^ 150)
 unfolding mul round
@@ -245,7 +244,7 @@ unfolding midpoint
 midway x y a b v w under = elim (below-or-not (a + b) 16777216) [ inl h ↦ short h | inr h ↦ long h ]
   where
     sum-is : add binary32 x y ≡ round binary32 false (a + b) (2 ^ 149)
-    sum-is = add-units x y a b v w
+    sum-is = add-values x y a b (2 ^ 149) (pow-pos 149) v w
 
     half-is : (c : ℕ) → Units (round binary32 false (a + b) (2 ^ 149)) c → mul binary32 (round binary32 false 1 2) (add binary32 x y) ≡ round binary32 false c (2 ^ 150)
     half-is c u = half-units (add binary32 x y) c (subst (λ (z : Float). Units z c) (sym sum-is) u)

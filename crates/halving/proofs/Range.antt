@@ -60,7 +60,7 @@ rounded a c b C B h =
     bounded (round binary32 false a c) (round binary32 false b 1) b (round-mono binary32 a c b 1 C (omega arith) (le-trans (le-of-eq (mul-one a)) h)) (round-sign false a c) (round-whole binary32 false b B)
 
 -- ---- the midpoint
-sum-up-to : (b : ℕ) (x y : Float) → b + b ≤ 16777216 → UpTo b x → UpTo b y → UpTo (b + b) (add binary32 x y)
+pub sum-up-to : (b : ℕ) (x y : Float) → b + b ≤ 16777216 → UpTo b x → UpTo b y → UpTo (b + b) (add binary32 x y)
 unfolding add sum
 sum-up-to b nan y B p q = absurd p
 sum-up-to b (inf s) y B p q = absurd p

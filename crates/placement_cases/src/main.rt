@@ -6,7 +6,6 @@
 mod operations;
 mod places;
 mod rings;
-mod rubbish;
 mod run;
 mod sweeps;
 

@@ -1,6 +1,7 @@
 // Steps and placements, each held to the words after its inputs.
-use crate::rubbish;
 use crate::run::Run;
+use cases::hues;
+use cases::rubbish;
 use placement::Answer;
 use placement::Stepping;
 
@@ -17,33 +18,6 @@ pub fn take_step(run: Run) -> Run {
     let line = run.line();
     let words = line.words;
     run.unless(same_step(words), b"")
-}
-
-// The hue that the words say for a place, 0 after the last.
-fn hue_said(words: [u32; 24], count: usize, place: usize) -> u32 {
-    if place < 16 {
-        if place + 5 < count {
-            return words[place + 5];
-        }
-    }
-    0
-}
-
-// Whether a hue is the one that is expected.
-fn same_hue(hue: u16, said: u32) -> bool {
-    hue as u32 == said
-}
-
-// Whether sixteen hues are those that the words say.
-fn same_hues(hues: [u16; 16], words: [u32; 24], count: usize) -> bool {
-    let mut i = 0;
-    while i < 16 {
-        if !same_hue(hues[i], hue_said(words, count, i)) {
-            return false;
-        }
-        i += 1;
-    }
-    true
 }
 
 // Whether an answer is of the kind that the words say.
@@ -72,13 +46,13 @@ fn same_place(words: [u32; 24], count: usize, seed: u32, m: &[f32], work: &mut [
     rubbish::fill(work, seed);
     let found = placement::feasible(m, c, k, step, work);
     let answer = found.answer;
-    let hues = found.hues;
+    let given = found.hues;
     if is_refused(answer) {
         if !rubbish::stands(work, seed) {
             return false;
         }
     }
-    same_answer(answer, words[4], 5 < count) && same_hues(hues, words, count)
+    same_answer(answer, words[4], 5 < count) && hues::same(given, words, 5, count)
 }
 
 // Whether it is in a work buffer of the length that the words say, on a ring of this length.

@@ -1,8 +1,8 @@
 // What came of a list so far, and what the next placement meets.
 use crate::operations;
-use crate::rubbish;
 use case_lines::Replay;
 use cases::Line;
+use cases::rubbish;
 
 // What came of the lines so far.
 pub struct Run {

@@ -3,9 +3,9 @@
 // none, 255 for a placement, the number of a refusal, or 254 for one that left its work buffer changed. Sixteen hues
 // follow, two bytes each, the low one first.
 use crate::places;
-use crate::rubbish;
 use crate::run::Run;
 use cases::digest;
+use cases::rubbish;
 use placement::Answer;
 
 // The digest of the answers so far, and what the rubbish of the next work buffer is made from.

@@ -1,11 +1,11 @@
--- `placement_cases::rubbish::fill` is safe and ends: it goes over the buffer, which stays as long as it is. Assumes nothing.
+-- `cases::rubbish::fill` is safe and ends: it goes over the buffer, which stays as long as it is. Assumes nothing.
 use Prim.Native.Nat.{_≤_, _-_}
 use native.Mathlib.Omega.{arith}
 use lib.ListN.{length, length-set}
 use mathlib.Core.Path.{_≡_, refl}
 use borrow.Author.Needs.{needs}
-use Rattle.placement_cases.proofs.rubbish.fill.Statement.{statement}
-use Rattle.placement_cases.proofs.rubbish.fill.Tie as tie
+use Rattle.cases.proofs.rubbish.fill.Statement.{statement}
+use Rattle.cases.proofs.rubbish.fill.Tie as tie
 
 abbrev Inv-loop : tie.InvT-loop
 Inv-loop work₀ seed next₀ i₀ work next i = (i ≤ length work) × (length work ≡ length work₀)

@@ -1,10 +1,10 @@
--- `placement_cases::rubbish::stands` is safe and ends: it goes over the buffer. Assumes nothing.
+-- `cases::rubbish::stands` is safe and ends: it goes over the buffer. Assumes nothing.
 use Prim.Native.Nat.{_≤_, _-_}
 use native.Mathlib.Omega.{arith}
 use lib.ListN.{length}
 use borrow.Author.Needs.{needs}
-use Rattle.placement_cases.proofs.rubbish.stands.Statement.{statement}
-use Rattle.placement_cases.proofs.rubbish.stands.Tie as tie
+use Rattle.cases.proofs.rubbish.stands.Statement.{statement}
+use Rattle.cases.proofs.rubbish.stands.Tie as tie
 
 abbrev Inv-loop : tie.InvT-loop
 Inv-loop work seed next₀ i₀ next i = i ≤ length work

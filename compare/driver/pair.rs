@@ -1,0 +1,194 @@
+//! The lines of a list of pair cases: two rows, and the best over them.
+
+use crate::cases::{head, line, word};
+use crate::pairing;
+use crate::placement::{refusal, Call, STORED};
+use crate::placing;
+use std::io::{self, Write};
+
+/// How many entries one line can set.
+const ENTRIES_A_LINE: usize = 22;
+
+/// What a pair answers.
+enum Answer {
+    Found(f32, Vec<usize>),
+    Nothing,
+    Refused(u32),
+}
+
+/// The answer: a refusal, or what the published Rust gives.
+fn answer(rows: [&[f32]; 2], call: Call) -> Answer {
+    if let Some(number) = refusal(&rows, call) {
+        return Answer::Refused(number);
+    }
+    let gamut = pairing::over(2, rows[0].len(), rows.concat());
+    let (k, step) = (call.k as usize, call.step as usize);
+    match pairing::best_for_levels(&gamut, 0, 1, k, step, call.c) {
+        Some((chroma, hues)) => Answer::Found(chroma, hues),
+        None => Answer::Nothing,
+    }
+}
+
+/// The lesser value of two rows at each hue that both have.
+pub fn lesser(rows: [&[f32]; 2]) -> Vec<f32> {
+    let both = rows[0].iter().zip(rows[1]);
+    both.map(|(a, b)| a.min(*b)).collect()
+}
+
+/// The largest of some values.
+pub fn largest(values: &[f32]) -> f32 {
+    values.iter().copied().fold(0.0, f32::max)
+}
+
+/// A list of pair cases being written.
+pub struct Pairs<'a> {
+    out: &'a mut dyn Write,
+    entries: [[f32; STORED]; 2],
+    lengths: [usize; 2],
+    found: u64,
+    nothing: u64,
+    refused: u64,
+    moved: u64,
+    largest: u64,
+    low: u64,
+}
+
+impl Pairs<'_> {
+    /// Begins a list made by this command.
+    pub fn begin<'a>(out: &'a mut dyn Write, command: &str) -> io::Result<Pairs<'a>> {
+        let source = "xtask/src/palette.rs";
+        head(out, "Pair", source, "the refusals", command)?;
+        Ok(Pairs {
+            out,
+            entries: [[0.0; STORED]; 2],
+            lengths: [0; 2],
+            found: 0,
+            nothing: 0,
+            refused: 0,
+            moved: 0,
+            largest: 0,
+            low: 0,
+        })
+    }
+
+    /// The two rows.
+    pub fn rows(&self) -> [&[f32]; 2] {
+        [0, 1].map(|which| &self.entries[which][..self.lengths[which]])
+    }
+
+    /// Sets the length of a row; entries stay where they stand.
+    pub fn resize(&mut self, which: usize, length: usize) -> io::Result<()> {
+        self.lengths[which] = length;
+        line(self.out, "row", &[which as u32, length as u32])
+    }
+
+    /// Sets entries of a row from a place on.
+    pub fn more(&mut self, which: usize, at: usize, entries: &[f32]) -> io::Result<()> {
+        self.entries[which][at..at + entries.len()].copy_from_slice(entries);
+        let mut words = vec![which as u32, at as u32];
+        words.extend(entries.iter().copied().map(word));
+        line(self.out, "more", &words)
+    }
+
+    /// Sets so many entries of a row, from a place on, to one value.
+    pub fn same(&mut self, which: usize, at: usize, count: usize, v: f32) -> io::Result<()> {
+        self.entries[which][at..at + count].fill(v);
+        let words = [which as u32, at as u32, count as u32, word(v)];
+        line(self.out, "same", &words)
+    }
+
+    /// Sets a row and all of its entries, those of a long run of one value in one line.
+    pub fn set(&mut self, which: usize, row: &[f32]) -> io::Result<()> {
+        self.resize(which, row.len())?;
+        let run = |at: usize| {
+            let equal = |v: &&f32| v.to_bits() == row[at].to_bits();
+            row[at..].iter().take_while(equal).count()
+        };
+        let mut at = 0;
+        while at < row.len() {
+            let count = run(at);
+            if count > ENTRIES_A_LINE {
+                self.same(which, at, count, row[at])?;
+                at += count;
+                continue;
+            }
+            let most = row.len().min(at + ENTRIES_A_LINE);
+            let end = (at..most).find(|i| run(*i) > ENTRIES_A_LINE);
+            let end = end.unwrap_or(most);
+            self.more(which, at, &row[at..end])?;
+            at = end;
+        }
+        Ok(())
+    }
+
+    /// Sets both rows.
+    pub fn both(&mut self, rows: [&[f32]; 2]) -> io::Result<()> {
+        self.set(0, rows[0])?;
+        self.set(1, rows[1])
+    }
+
+    /// Counts an answer to a call.
+    fn count(&mut self, call: Call, answer: &Answer) {
+        let (chroma, hues) = match answer {
+            Answer::Found(chroma, hues) => (*chroma, hues),
+            Answer::Nothing => return self.nothing += 1,
+            Answer::Refused(_) => return self.refused += 1,
+        };
+        let m = lesser(self.rows());
+        let (k, step) = (call.k as usize, call.step as usize);
+        let first = placing::feasible(&m, m.len(), k, step, call.c);
+        self.found += 1;
+        self.moved += u64::from(first.as_ref() != Some(hues));
+        self.largest += u64::from(chroma == largest(&m));
+        self.low += u64::from(call.c < 35.0);
+    }
+
+    /// Writes the best of a pair, and gives its chroma where there is one.
+    pub fn best(&mut self, call: Call) -> io::Result<Option<f32>> {
+        let answer = answer(self.rows(), call);
+        self.count(call, &answer);
+        let mut words = vec![call.k, call.step, word(call.c), call.room as u32];
+        let chroma = match &answer {
+            Answer::Found(chroma, hues) => {
+                words.extend([0, word(*chroma)]);
+                words.extend(hues.iter().map(|hue| *hue as u32));
+                Some(*chroma)
+            }
+            Answer::Nothing => {
+                words.push(0);
+                None
+            }
+            Answer::Refused(number) => {
+                words.push(*number);
+                None
+            }
+        };
+        line(self.out, "best", &words)?;
+        Ok(chroma)
+    }
+
+    /// Writes the best of a pair with a work buffer just long enough, and gives its chroma.
+    pub fn from(&mut self, floor: f32, k: u32, step: u32) -> io::Result<Option<f32>> {
+        let room = 3 * self.lengths[0];
+        self.best(Call {
+            k,
+            step,
+            c: floor,
+            room,
+        })
+    }
+
+    /// Ends the list with how many answers of each kind it holds.
+    pub fn end(self) -> io::Result<()> {
+        writeln!(
+            self.out,
+            "# Answers: {} found, {} none, {} refused.",
+            self.found, self.nothing, self.refused
+        )?;
+        writeln!(
+            self.out,
+            "# Of those found, {} have other hues than at the floor, {} are the largest value, and {} have a floor below 35.",
+            self.moved, self.largest, self.low
+        )
+    }
+}

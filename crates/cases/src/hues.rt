@@ -1,0 +1,29 @@
+// Sixteen hues, held to the last words of a line.
+
+// The hue that the words from one of them on say for a place, 0 after the last.
+fn said(words: [u32; 24], from: usize, count: usize, place: usize) -> u32 {
+    let at = std::num::wrapping_add_usize(from, place);
+    if at < count {
+        if at < 24 {
+            return words[at];
+        }
+    }
+    0
+}
+
+// Whether a hue is the one that is expected.
+fn is(hue: u16, said: u32) -> bool {
+    hue as u32 == said
+}
+
+// Whether sixteen hues are those that the words from one of them on say.
+pub fn same(hues: [u16; 16], words: [u32; 24], from: usize, count: usize) -> bool {
+    let mut i = 0;
+    while i < 16 {
+        if !is(hues[i], said(words, from, count, i)) {
+            return false;
+        }
+        i += 1;
+    }
+    true
+}

@@ -1,0 +1,90 @@
+-- `exports::tengcuvo_best` meets its contract, by what `pair::best_for_levels` says of its answer, the hues and the work buffer. Assumes nothing.
+use mathlib.Core.Path.{_≡_, sym, ap, _∙_}
+use mathlib.Core.List.{List, [], _∷_}
+use Prim.Native.Nat.{ℕ}
+use lib.Ieee.{Float}
+use borrow.Author.Needs.{needs}
+use Rattle.limits.specs.Answers.{Said, value, refused}
+use Rattle.pair.specs.declared.Answer.{Answer}
+use Rattle.pair.specs.Pair.{Best, none, found, huesBeside, answers}
+use Rattle.exports.specs.Numbers.{bestNumber, bestHues, bestChroma}
+use Rattle.exports.proofs.tengcuvo_best.Statement.{statement}
+use Rattle.exports.proofs.tengcuvo_best.Tie as tie
+
+-- ---- what is said where an answer is of a kind
+said : {a b : Answer} {s : Said Best} (h : List ℕ) → a ≡ b → answers a h ≡ s → answers b h ≡ s
+said h told e = sym (ap (λ x. answers x h) told) ∙ e
+
+-- ---- the number, the hues and the chroma, by what is said
+found-gives : {h : List ℕ} {x : Float} {s : Said Best} (hues : List ℕ) (chroma : List Float) → value (found x h) ≡ s → (0 ≡ bestNumber s) × ((h ≡ bestHues s hues) × (x ∷ [] ≡ bestChroma s chroma))
+found-gives hues chroma e = (ap bestNumber e, (ap (λ s. bestHues s hues) e, ap (λ s. bestChroma s chroma) e))
+
+none-gives : {h : List ℕ} {s : Said Best} (hues : List ℕ) (chroma : List Float) → value none ≡ s → h ≡ huesBeside s → (255 ≡ bestNumber s) × ((h ≡ bestHues s hues) × (chroma ≡ bestChroma s chroma))
+none-gives hues chroma e beside =
+    (ap bestNumber e, (beside ∙ (sym (ap huesBeside e) ∙ ap (λ s. bestHues s hues) e), ap (λ s. bestChroma s chroma) e))
+
+refused-gives : {n : ℕ} {s : Said Best} (hues : List ℕ) (chroma : List Float) → refused n ≡ s → (n ≡ bestNumber s) × ((hues ≡ bestHues s hues) × (chroma ≡ bestChroma s chroma))
+refused-gives hues chroma e = (ap bestNumber e, (ap (λ s. bestHues s hues) e, ap (λ s. bestChroma s chroma) e))
+
+best-for-levels-requires : tie.Need-best-for-levels-requires
+best-for-levels-requires c κs = search needs
+
+enum-known-answer : tie.Need-enum-known-answer
+enum-known-answer c = search needs
+
+enum-told : tie.Need-enum-told
+enum-told c = search needs
+
+enum-known-answer-2 : tie.Need-enum-known-answer-2
+enum-known-answer-2 c = search needs
+
+number-requires : tie.Need-number-requires
+number-requires c κs = search needs
+
+cast-result : tie.Need-cast-result
+cast-result c = search needs
+
+same-length : tie.Need-same-length
+same-length c = search needs
+
+returns : tie.Need-returns
+returns c =
+    let call = c .before .before .before .before .before .before .before .best-for-levels in
+    let chosen = call .ensures in
+    (found-gives _ _ (said (call .result .hues) (c .before .before .answer .given .1) (chosen .0 .0)), chosen .1)
+
+same-length-2 : tie.Need-same-length-2
+same-length-2 c = search needs
+
+returns-2 : tie.Need-returns-2
+returns-2 c =
+    let call = c .before .before .before .before .before .best-for-levels in
+    let chosen = call .ensures in
+    (none-gives _ _ (said (call .result .hues) (c .enum-told .given .1) (chosen .0 .0)) (chosen .0 .1), chosen .1)
+
+same-length-3 : tie.Need-same-length-3
+same-length-3 c = search needs
+
+returns-3 : tie.Need-returns-3
+returns-3 c =
+    let call = c .before .before .before .before .before .before .before .best-for-levels in
+    let chosen = call .ensures in
+    let kept = refused-gives _ _ (said (call .result .hues) (c .before .before .answer2 .given .1) (chosen .0 .0)) in
+    ((c .number .ensures ∙ kept .0, kept .1), chosen .1)
+
+pub tengcuvo-best-spec : {M : Type 1} → statement M
+tengcuvo-best-spec =
+    tie.close
+    (tie.spec
+    best-for-levels-requires
+    enum-known-answer
+    enum-told
+    enum-known-answer-2
+    number-requires
+    cast-result
+    same-length
+    returns
+    same-length-2
+    returns-2
+    same-length-3
+    returns-3)

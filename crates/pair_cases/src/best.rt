@@ -1,0 +1,92 @@
+// The best of a pair, held to the words after its inputs.
+use cases::hues;
+use cases::rubbish;
+use pair::Answer;
+
+// Whether an answer is the one that the words say.
+fn same_answer(answer: Answer, words: [u32; 24], found: bool) -> bool {
+    let number = words[4];
+    match answer {
+        Answer::Found(chroma) => number == 0 && found && cases::same_float(chroma, words[5]),
+        Answer::Nothing => number == 0 && !found,
+        Answer::Refused(why) => number == why.number() as u32,
+    }
+}
+
+// Whether an answer is a refusal.
+fn is_refused(answer: Answer) -> bool {
+    match answer {
+        Answer::Found(_) => false,
+        Answer::Nothing => false,
+        Answer::Refused(_) => true,
+    }
+}
+
+// Whether the best of a pair in this work buffer is the one that is expected, and leaves the buffer where it is refused.
+fn same_best(
+    words: [u32; 24],
+    count: usize,
+    seed: u32,
+    a: &[f32],
+    b: &[f32],
+    work: &mut [u16],
+) -> bool {
+    let k = cases::size_of(words[0]);
+    let step = cases::size_of(words[1]);
+    let floor = cases::float_of(words[2]);
+    rubbish::fill(work, seed);
+    let chosen = pair::best_for_levels(a, b, k, step, floor, work);
+    let answer = chosen.answer;
+    let given = chosen.hues;
+    if is_refused(answer) {
+        if !rubbish::stands(work, seed) {
+            return false;
+        }
+    }
+    same_answer(answer, words, 5 < count) && hues::same(given, words, 6, count)
+}
+
+// Whether it is in a work buffer of the length that the words say, over rows of these lengths.
+fn same_in(
+    words: [u32; 24],
+    count: usize,
+    seed: u32,
+    rows: &[f32],
+    first: usize,
+    second: usize,
+) -> bool {
+    let mut work = [0u16; 2400];
+    let room = cases::size_of(words[3]);
+    if second <= 800 && room <= 2400 {
+        let end = 800 + second;
+        if first <= rows.len() && end <= rows.len() {
+            let part = &mut work[0..room];
+            return same_best(words, count, seed, &rows[0..first], &rows[800..end], part);
+        }
+    }
+    false
+}
+
+// Whether a pair has as many hues as it may: none, or k after a chroma where it is not refused.
+fn is_whole(words: [u32; 24], count: usize) -> bool {
+    if 6 < count {
+        return words[4] == 0 && count - 6 == cases::size_of(words[0]);
+    }
+    count == 5
+}
+
+// What the rubbish of the work buffer is made from, which is another for each line.
+fn seed_of(number: u64) -> u32 {
+    rubbish::stirred((number % 0x1_0000_0000) as u32)
+}
+
+// Whether the best of a pair is what the words of the line with this number say.
+pub fn agrees(
+    number: u64,
+    words: [u32; 24],
+    count: usize,
+    rows: &[f32],
+    lengths: &[usize; 2],
+) -> bool {
+    is_whole(words, count) && same_in(words, count, seed_of(number), rows, lengths[0], lengths[1])
+}
