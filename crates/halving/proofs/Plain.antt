@@ -154,8 +154,11 @@ no-nan nan a v = v
 no-nan (inf s) a v = tt
 no-nan (fin s m e) a v = tt
 
+pub pattern-number : (b : ℕ) → b < 2139095040 → T (not (isNan (ofBits binary32 b)))
+pattern-number b h = no-nan (ofBits binary32 b) (worth b) (pattern-value b h)
+
 pub bits-of : (b : ℕ) → b < 2139095040 → toBits binary32 (ofBits binary32 b) ≡ b
-bits-of b h = toBits-ofBits binary32 b (omega arith) (no-nan (ofBits binary32 b) (worth b) (pattern-value b h))
+bits-of b h = toBits-ofBits binary32 b (omega arith) (pattern-number b h)
 
 pub pattern-plain : (b : ℕ) → b < 2139095040 → Plain (ofBits binary32 b)
 pattern-plain b h = record { f32 = ofBits-fits binary32 b; under = subst (λ (z : ℕ). z < 2139095040) (sym (bits-of b h)) h }

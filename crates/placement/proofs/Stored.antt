@@ -12,8 +12,12 @@ unfolding stores
 past-first x xs t [] = refl
 past-first x xs t (i ∷ is) = past-first x (set xs t i) (suc t) is
 
+pub stored-next : (x : ℕ) (xs : List ℕ) (i : ℕ) (is : List ℕ) → stores (x ∷ xs) 0 (i ∷ is) ≡ i ∷ stores xs 0 is
+unfolding stores
+stored-next x xs i is = past-first i xs 0 is
+
 pub first-stored : (hues is : List ℕ) → length is ≤ length hues → take (length is) (stores hues 0 is) ≡ is
 unfolding stores
 first-stored hues [] h = refl
 first-stored [] (i ∷ is) h = absurd (not-suc-le-zero h)
-first-stored (x ∷ xs) (i ∷ is) h = ap (take (suc (length is))) (past-first i xs 0 is) ∙ ap (λ (r : List ℕ). i ∷ r) (first-stored xs is (le-of-suc-le-suc h))
+first-stored (x ∷ xs) (i ∷ is) h = ap (take (suc (length is))) (stored-next x xs i is) ∙ ap (λ (r : List ℕ). i ∷ r) (first-stored xs is (le-of-suc-le-suc h))

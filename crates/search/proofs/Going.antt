@@ -1,0 +1,87 @@
+-- One pair of levels of an unbroken job: of what `pair` checks only the entries of the two rows are left, and the job goes on from its answer. Assumes nothing.
+use mathlib.Core.Path.{_≡_, refl, sym, ap, _∙_}
+use mathlib.Core.Bool.{Bool, true, false, _&&_, cond}
+use mathlib.Core.List.{List, [], _∷_}
+use Prim.Native.Nat.{ℕ, _+_, _-_, _*_, _<_}
+use native.Mathlib.Omega.{arith}
+use lib.Ieee.{Float}
+use lib.ListN.{length, take, drop, length-take, length-drop}
+use Rattle.limits.specs.Answers.{Said, value, refused}
+use Rattle.limits.specs.Refusals.{number}
+use Rattle.limits.specs.Taken.{entryTaken, every}
+use Rattle.limits.specs.declared.Refusal.{Refusal}
+use Rattle.placement.specs.Placing.{stepFor}
+use Rattle.pair.specs.declared.Answer.{Answer}
+use Rattle.pair.specs.declared.Answer.the-variants.{Found, Nothing, Refused}
+use Rattle.pair.specs.Rows.{leastRow}
+use Rattle.pair.specs.Pair.{Best, bestOver, rowsSay, pairSays, answers}
+use Rattle.search.specs.declared.Job.{Job}
+use Rattle.search.specs.Job.{rowAt, floorOf, qualifies, beats, movedOn, replaced, afterPair, pairBest, searched}
+use Rattle.search.specs.Inner.{pairGiven, Stepped}
+use Rattle.search.proofs.Sound.{sound, floor-taken, step-taken, rows-left}
+
+-- ---- the rows
+-- a row as the code lends it
+abbrev pub part : List Float → ℕ → List Float
+part table i = take (i * 720 + 720 - i * 720) (drop (i * 720) table)
+
+part-row : (table : List Float) (i : ℕ) → part table i ≡ rowAt table i
+unfolding rowAt
+part-row table i = let e : i * 720 + 720 - i * 720 ≡ 720 = omega arith in ap (λ (n : ℕ). take n (drop (i * 720) table)) e
+
+row-long : (table : List Float) (levels i : ℕ) → length table ≡ levels * 720 → i < levels → length (rowAt table i) ≡ 720
+unfolding rowAt
+row-long table levels i e h = simp (length-take, length-drop) (omega arith)
+
+-- what `pair` says of the two rows
+pub pair-says :
+    (j : Job) (table : List Float) (room d l step : ℕ) (floor : Float) → Stepped j table room d l → step ≡ stepFor (j .settings .k) → floor ≡ floorOf (j .best) →
+    pairSays (j .settings .k) step floor (part table d) (part table l) room ≡ pairGiven j table d l
+unfolding pairBest rowsSay
+pair-says j table room d l step floor s e f =
+    let k = j .settings .k in
+    let t = sound j (s .sound) in
+    let a = rowAt table d in
+    let b = rowAt table l in
+    let good = value (bestOver k (stepFor k) (floorOf (j .best)) (leastRow (a ∷ b ∷ []))) in
+    rw (e, f, part-row table d, part-row table l)
+    (rows-left k (stepFor k) (floorOf (j .best)) a b room good (t .hue-count-taken) (step-taken k (t .hue-count-taken)) (floor-taken (j .levels) (j .best) (t .best-held))
+    (row-long table (j .levels) d (s .long) (s .dark-in)) (row-long table (j .levels) l (s .long) (s .light-in)) (s .room-enough))
+
+-- ---- the job after it
+abbrev after : Job → ℕ → ℕ → Said Best → Said Job
+after j d l (value best) = value (afterPair j d l best)
+after j d l (refused n) = refused n
+
+after-rows : (j : Job) (d l : ℕ) (taken : Bool) (best : Best) → cond taken (value (afterPair j d l best)) (refused 7) ≡ after j d l (cond taken (value best) (refused 7))
+after-rows j d l true best = refl
+after-rows j d l false best = refl
+
+module _ (j : Job) (table : List Float) (d l : ℕ) where
+  -- a pair whose levels are too near
+  pub passed-over : qualifies (j .settings) d l ≡ false → searched j table d l ≡ value (movedOn j)
+  unfolding searched
+  passed-over f = rw f
+
+  module _ (far : qualifies (j .settings) d l ≡ true) (answer : Answer) (hues : List ℕ) (says : answers answer hues ≡ pairGiven j table d l) where
+    went : searched j table d l ≡ after j d l (answers answer hues)
+    unfolding searched
+    went = rw far (after-rows j d l (every entryTaken (rowAt table d) && every entryTaken (rowAt table l)) (pairBest j table d l)) ∙ ap (after j d l) (sym says)
+
+    pub went-refused : (w : Refusal) → answer ≡ Refused w → searched j table d l ≡ refused (number w)
+    went-refused w e = went ∙ ap (λ (a : Answer). after j d l (answers a hues)) e
+
+    pub given-refused : (w : Refusal) → answer ≡ Refused w → pairGiven j table d l ≡ refused (number w)
+    given-refused w e = sym says ∙ ap (λ (a : Answer). answers a hues) e
+
+    pub went-nowhere : answer ≡ Nothing → searched j table d l ≡ value (movedOn j)
+    went-nowhere e = went ∙ ap (λ (a : Answer). after j d l (answers a hues)) e
+
+    went-found : (c : Float) → answer ≡ Found c → searched j table d l ≡ value (cond (beats c (j .best)) (replaced j c d l hues) (movedOn j))
+    went-found c e = went ∙ ap (λ (a : Answer). after j d l (answers a hues)) e
+
+    pub went-better : (c : Float) → answer ≡ Found c → beats c (j .best) ≡ true → searched j table d l ≡ value (replaced j c d l hues)
+    went-better c e b = went-found c e ∙ ap (λ (t : Bool). value (cond t (replaced j c d l hues) (movedOn j))) b
+
+    pub went-worse : (c : Float) → answer ≡ Found c → beats c (j .best) ≡ false → searched j table d l ≡ value (movedOn j)
+    went-worse c e b = went-found c e ∙ ap (λ (t : Bool). value (cond t (replaced j c d l hues) (movedOn j))) b

@@ -1,0 +1,4 @@
+pub mod Job
+pub mod Inner
+pub mod Runs
+pub mod Accepted

@@ -1,0 +1,371 @@
+// The job that searches every pair of levels, a step at a time: `search` of xtask/src/palette.rs, with stepping added.
+use gamut::Gamut;
+use limits::Refusal;
+use pair::Chosen;
+use placement::Checked;
+use placement::Stepping;
+ghost use mathlib.Core.Path.{_≡_};
+ghost use mathlib.Core.Bool.{true};
+ghost use Prim.Native.Nat.{ℕ, _<_};
+ghost use lib.ListN.{length};
+ghost use Rattle.limits.specs.Answers.{value, refused};
+ghost use Rattle.limits.specs.Refusals.{number};
+ghost use Rattle.limits.specs.Taken.{hueCountTaken};
+ghost use Rattle.placement.specs.Placing.{stepFor, checkSaid};
+ghost use Rattle.search.specs.declared.Job.{Job};
+ghost use Rattle.search.specs.Job.{tableTaken, begun, startChecked, startSays, bestHeld, handed, huesHeld, unbroken, qualifies, floorOf, beats, movedOn, replaced, searched, stepChecked, stepSays, stepsFrom, searchSays, Gives};
+ghost use Rattle.search.specs.Inner.{pairAnswers, pairHues, pairGiven, Stepped};
+
+// What a start sets.
+pub struct Settings {
+    // how many hues
+    pub k: usize,
+    // how far apart the two levels must be, less 1
+    pub gap: f32,
+}
+
+// The best so far; its hues stand beside it in the job.
+pub enum Best {
+    // none so far
+    None,
+    // a chroma, with the dark and the light level index
+    Found(f32, usize, usize),
+}
+
+// A search, as it stands after some of its steps.
+pub struct Job {
+    pub settings: Settings,
+    // how many levels the table has
+    pub levels: usize,
+    // how many pairs were gone through
+    pub position: usize,
+    pub best: Best,
+    // zeros after the first k, and all zero where there is none so far
+    pub hues: [u16; 16],
+}
+
+// Whether a call was accepted.
+pub enum Answer {
+    // the job beside it is the new one
+    Accepted,
+    // the job beside it is the one that was lent
+    Refused(Refusal),
+}
+
+// An answer with the job after the call.
+pub struct Outcome {
+    pub answer: Answer,
+    pub job: Job,
+}
+
+// Whether a slice is taken as a table, by its length.
+fn takes_table(table: &[f32]) -> bool
+    ensures { λ r. ⌜ r ≡ tableTaken (now (table .entry)) ⌝ }
+{
+    let n = table.len();
+    let levels = n / Gamut::HUES;
+    n == levels * Gamut::HUES && 1 <= levels && levels <= Gamut::LEVELS
+}
+
+// A call that is refused, with the job as it was.
+fn refuse(why: Refusal, job: Job) -> Outcome
+    ensures { λ r. ⌜ Gives r job (refused (number why)) ⌝ }
+{
+    Outcome {
+        answer: Answer::Refused(why),
+        job,
+    }
+}
+
+// A call that is accepted, with the job after it.
+fn accept(job: Job) -> Outcome
+    ensures { λ r. ⌜ ((before : Job) → Gives r before (value job)) ⌝ }
+{
+    Outcome {
+        answer: Answer::Accepted,
+        job,
+    }
+}
+
+// The first refusal of a start, of 1, 2, 6 and 7 over the whole table.
+fn check_start(settings: Settings, table: &[f32]) -> Checked
+    ensures { λ r. ⌜ checkSaid r ≡ startChecked settings (now (table .entry)) (value tt) ⌝ }
+{
+    if !limits::takes_hue_count(settings.k) {
+        return Checked::Wrong(Refusal::HueCount);
+    }
+    if !limits::takes_gap(settings.gap) {
+        return Checked::Wrong(Refusal::Gap);
+    }
+    if !takes_table(table) {
+        return Checked::Wrong(Refusal::TableLength);
+    }
+    if !limits::takes_entries(table) {
+        return Checked::Wrong(Refusal::Entry);
+    }
+    Checked::Fine
+}
+
+// The job at the beginning of a search.
+fn begin(settings: Settings, levels: usize) -> Job
+    ensures { λ r. ⌜ r ≡ begun settings levels ⌝ }
+{
+    Job {
+        settings,
+        levels,
+        position: 0,
+        best: Best::None,
+        hues: [0u16; 16],
+    }
+}
+
+// Begins a search over a table. Nothing of the job that is lent is read; it is handed back where the call is refused.
+pub fn start(settings: Settings, table: &[f32], job: Job) -> Outcome
+    ensures { λ r. ⌜ Gives r job (startSays settings (now (table .entry))) ⌝ }
+{
+    let checked = check_start(settings, table);
+    match checked {
+        Checked::Wrong(why) => refuse(why, job),
+        Checked::Fine => accept(begin(settings, table.len() / Gamut::HUES)),
+    }
+}
+
+// Whether the first n hues are at most 719 and the others zero.
+fn holds_hues(n: usize, hues: [u16; 16]) -> bool
+    ensures { λ r. ⌜ r ≡ huesHeld n hues ⌝ }
+{
+    let mut i: usize = 0;
+    while i < 16 {
+        let most: u16 = if i < n { 719 } else { 0 };
+        if most < hues[i] {
+            return false;
+        }
+        i += 1;
+    }
+    true
+}
+
+// Whether a best so far is in its ranges, in a table of so many levels.
+fn holds_best(levels: usize, best: Best) -> bool
+    ensures { λ r. ⌜ r ≡ bestHeld levels best ⌝ }
+{
+    match best {
+        Best::None => true,
+        Best::Found(c, d, l) => 35.0 <= c && c <= 200.0 && d < levels && l < levels,
+    }
+}
+
+// How many hues stand for something beside a best so far.
+fn handed(k: usize, best: Best) -> usize
+    ensures { λ r. ⌜ r ≡ handed k best ⌝ }
+{
+    match best {
+        Best::None => 0,
+        Best::Found(_, _, _) => k,
+    }
+}
+
+// Whether no field of a job is out of its range.
+fn is_unbroken(job: Job) -> bool
+    ensures { λ r. ⌜ r ≡ unbroken job ⌝ }
+{
+    let k = job.settings.k;
+    let gap = job.settings.gap;
+    let levels = job.levels;
+    let position = job.position;
+    let best = job.best;
+    let hues = job.hues;
+    if !(limits::takes_hue_count(k) && limits::takes_gap(gap)) {
+        return false;
+    }
+    if !(1 <= levels && levels <= Gamut::LEVELS) {
+        return false;
+    }
+    if levels * levels < position {
+        return false;
+    }
+    holds_best(levels, best) && holds_hues(handed(k, best), hues)
+}
+
+// The first refusal of a step before it reads a row, of 15, 14, 6 and 8.
+fn check_step(job: Job, length: usize, room: usize) -> Checked
+    ensures { λ r. ⌜ checkSaid r ≡ stepChecked job length room (value tt) ⌝ }
+{
+    if !is_unbroken(job) {
+        return Checked::Wrong(Refusal::Broken);
+    }
+    let levels = job.levels;
+    if levels * levels <= job.position {
+        return Checked::Wrong(Refusal::Finished);
+    }
+    if length != levels * Gamut::HUES {
+        return Checked::Wrong(Refusal::TableLength);
+    }
+    if room < 3 * Gamut::HUES {
+        return Checked::Wrong(Refusal::WorkBuffer);
+    }
+    Checked::Fine
+}
+
+// Whether a dark and a light level are at least gap + 1 apart.
+fn qualifies(settings: Settings, dark: u16, light: u16) -> bool
+    ensures { λ r. ⌜ r ≡ qualifies settings dark light ⌝ }
+{
+    let apart = Gamut::l_of(light) - Gamut::l_of(dark);
+    let least = settings.gap + 1.0;
+    !(apart < least)
+}
+
+// The chroma that a pair must reach.
+fn floor_of(best: Best) -> f32
+    ensures { λ r. ⌜ r ≡ floorOf best ⌝ }
+{
+    match best {
+        Best::None => 35.0,
+        Best::Found(c, _, _) => c,
+    }
+}
+
+// Whether a chroma replaces the best so far.
+fn beats(chroma: f32, best: Best) -> bool
+    ensures { λ r. ⌜ r ≡ beats chroma best ⌝ }
+{
+    match best {
+        Best::None => true, // anything replaces it
+        Best::Found(c, _, _) => c < chroma,
+    }
+}
+
+// The job one position on.
+fn moved_on(job: Job) -> Job
+    requires { ⌜ job .position < 28561 ⌝ }
+    ensures { λ r. ⌜ r ≡ movedOn job ⌝ }
+{
+    let mut next = job;
+    next.position += 1;
+    next
+}
+
+// The job one position on, with another best.
+fn replaced(job: Job, chroma: f32, dark: usize, light: usize, hues: [u16; 16]) -> Job
+    requires { ⌜ job .position < 28561 ⌝ }
+    ensures { λ r. ⌜ r ≡ replaced job chroma dark light hues ⌝ }
+{
+    let settings = job.settings;
+    let levels = job.levels;
+    let position = job.position + 1;
+    let best = Best::Found(chroma, dark, light);
+    Job {
+        settings,
+        levels,
+        position,
+        best,
+        hues,
+    }
+}
+
+// The step for a hue count that is taken.
+fn step_of(k: usize) -> usize
+    requires { ⌜ hueCountTaken k ≡ true ⌝ }
+    ensures { λ r. ⌜ r ≡ stepFor k ⌝ }
+{
+    let stepping = placement::step_for(k);
+    match stepping {
+        Stepping::Is(step) => step,
+        Stepping::Declined(_) => 0,
+    }
+}
+
+// The best of one pair of levels, from the job's floor.
+fn best_of(table: &[f32], work: &mut [u16], job: Job, dark: usize, light: usize) -> Chosen
+    requires { ⌜ Stepped job (now table) (length (now work)) dark light ⌝ }
+    ensures { λ r. ⌜ (pairAnswers (r .answer) (r .hues) ≡ pairGiven job (now (table .entry)) dark light) × (r .hues ≡ pairHues (pairGiven job (now (table .entry)) dark light)) ⌝ }
+    ensures { λ r. ⌜ ((w : ℕ) → pairGiven job (now (table .entry)) dark light ≡ refused w → now (work .exit) ≡ now (work .entry)) ⌝ }
+{
+    let k = job.settings.k;
+    let best = job.best;
+    let from = dark * Gamut::HUES;
+    let other = light * Gamut::HUES;
+    pair::best_for_levels(
+        &table[from..from + Gamut::HUES],
+        &table[other..other + Gamut::HUES],
+        k,
+        step_of(k),
+        floor_of(best),
+        work,
+    )
+}
+
+// Goes through one pair of levels.
+fn go_through(table: &[f32], work: &mut [u16], job: Job, dark: usize, light: usize) -> Outcome
+    requires { ⌜ Stepped job (now table) (length (now work)) dark light ⌝ }
+    ensures { λ r. ⌜ Gives r job (searched job (now (table .entry)) dark light) ⌝ }
+    ensures { λ r. ⌜ ((w : ℕ) → searched job (now (table .entry)) dark light ≡ refused w → now (work .exit) ≡ now (work .entry)) ⌝ }
+{
+    if !qualifies(job.settings, dark as u16, light as u16) {
+        return accept(moved_on(job));
+    }
+    let chosen = best_of(table, work, job, dark, light);
+    let answer = chosen.answer;
+    let hues = chosen.hues;
+    match answer {
+        pair::Answer::Refused(why) => refuse(why, job),
+        pair::Answer::Nothing => accept(moved_on(job)),
+        pair::Answer::Found(c) => {
+            let best = job.best;
+            if beats(c, best) {
+                return accept(replaced(job, c, dark, light, hues));
+            }
+            accept(moved_on(job))
+        }
+    }
+}
+
+// One step of a search over the table that it was begun with. The job is handed back as it was where the call is refused, and so
+// is the work buffer; else that buffer's content is left free, and does not matter.
+pub fn step(table: &[f32], work: &mut [u16], job: Job) -> Outcome
+    ensures { λ r. ⌜ Gives r job (stepSays job (now (table .entry)) (length (now (work .entry)))) ⌝ }
+    ensures { λ r. ⌜ ((w : ℕ) → stepSays job (now (table .entry)) (length (now (work .entry))) ≡ refused w → now (work .exit) ≡ now (work .entry)) ⌝ }
+{
+    let checked = check_step(job, table.len(), work.len());
+    match checked {
+        Checked::Wrong(why) => refuse(why, job),
+        Checked::Fine => {
+            let dark = job.position / job.levels;
+            let light = job.position % job.levels;
+            go_through(table, work, job, dark, light)
+        }
+    }
+}
+
+// So many steps, one after the other.
+fn take_steps(table: &[f32], work: &mut [u16], job: Job, count: usize) -> Job
+    ensures { λ r. ⌜ r ≡ stepsFrom count job (now (table .entry)) (length (now (work .entry))) ⌝ }
+{
+    let mut last = job;
+    let mut i: usize = 0;
+    while i < count {
+        let next = step(table, work, last);
+        last = next.job;
+        i += 1;
+    }
+    last
+}
+
+// A whole search: a start and all its steps. Where it is refused the job and the work buffer are as they were.
+pub fn search(settings: Settings, table: &[f32], work: &mut [u16], job: Job) -> Outcome
+    ensures { λ r. ⌜ Gives r job (searchSays settings (now (table .entry)) (length (now (work .entry)))) ⌝ }
+    ensures { λ r. ⌜ ((w : ℕ) → searchSays settings (now (table .entry)) (length (now (work .entry))) ≡ refused w → now (work .exit) ≡ now (work .entry)) ⌝ }
+{
+    let checked = check_start(settings, table);
+    match checked {
+        Checked::Wrong(why) => refuse(why, job),
+        Checked::Fine => {
+            if work.len() < 3 * Gamut::HUES {
+                return refuse(Refusal::WorkBuffer, job);
+            }
+            let levels = table.len() / Gamut::HUES;
+            accept(take_steps(table, work, begin(settings, levels), levels * levels))
+        }
+    }
+}
