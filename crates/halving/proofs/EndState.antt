@@ -3,11 +3,11 @@
 -- instances of `after`. Assumes nothing.
 use mathlib.Core.Path.{_≡_, refl, sym, ap, _∙_, subst}
 use mathlib.Core.Logic.{_⊎_, inl, inr}
-use mathlib.Core.Bool.{Bool, true, false}
-use Prim.Native.Nat.{ℕ, zero, suc, _+_, _-_, _*_, _/_, _%_, _^_, _≤_, _<_}
-use native.Mathlib.Nat.{le-trans, le-of-eq, le-refl, lt-of-le-of-lt, mul-assoc, suc-mul}
+use mathlib.Core.Bool.{Bool, true}
+use Prim.Native.Nat.{ℕ, suc, _+_, _-_, _*_, _/_, _%_, _^_, _≤_, _<_}
+use native.Mathlib.Nat.{le-trans, le-of-eq, le-refl, mul-assoc, suc-mul}
 use native.Mathlib.Omega.{arith}
-use lib.Dec.{T, leb}
+use lib.Dec.{T}
 use lib.Pow.{pow-add, pow-pos, pow-mono}
 use lib.Ieee.{Float, binary32, ofBits, toBits, fits, le, ofInt}
 use borrow.Author.Tests.{leb-true, le-leb}
@@ -16,7 +16,7 @@ use Rattle.halving.specs.Midpoint.{halved}
 use Rattle.halving.specs.Patterns.{worth, next}
 use Rattle.halving.specs.Ends.{Closed, Within}
 use Rattle.halving.proofs.Least.{below-or-not}
-use Rattle.halving.proofs.Patterns.{worth-small, worth-normal, worth-next, worth-le}
+use Rattle.halving.proofs.Patterns.{worth-small, worth-normal, worth-le}
 use Rattle.halving.proofs.Halve.{joined}
 use Rattle.halving.proofs.Width.{Gaps, After, after}
 use Rattle.halving.proofs.Plain.{Plain, plain-is, le-plain, taken-plain, pattern-plain, bits-of}

@@ -1,29 +1,25 @@
 -- The midpoint of two f32, neither negative, is an f32 nearest their exact midpoint: over every two patterns below 253 * 2 ^ 23, by the numbers of units of 2 ^ -149 that
 -- they are worth. Either the sum is exact and the half of it is rounded, or the sum is rounded and its half is exact. Assumes nothing.
-use mathlib.Core.Path.{_≡_, refl, sym, ap, _∙_, subst}
-use mathlib.Core.Logic.{_⊎_, inl, inr}
-use mathlib.Core.Bool.{Bool, true, false, not, _&&_, cond, true≢false}
-use Prim.Native.Nat.{ℕ, zero, suc, _+_, _-_, _*_, _/_, _%_, _^_, _≤_, _<_, compare}
-use native.Mathlib.Nat.{le-trans, le-of-eq, le-refl, lt-of-le-of-lt, lt-of-lt-of-le, not-le-of-lt, mul-assoc, mul-comm, mul-left-comm, mul-right-comm, mul-one, one-mul, add-mul, mul-pos, mul-le-mul-right, mul-le-mul-left, eq-of-mul-eq-mul-right, div-one, zero-add, pow-suc, pow-succ'}
+use mathlib.Core.Path.{_≡_, sym, ap, _∙_, subst}
+use mathlib.Core.Logic.{inl, inr}
+use mathlib.Core.Bool.{true, false, true≢false}
+use Prim.Native.Nat.{ℕ, suc, _+_, _-_, _*_, _/_, _%_, _^_, _≤_, _<_, compare}
+use native.Mathlib.Nat.{le-trans, le-of-eq, le-refl, lt-of-le-of-lt, lt-of-lt-of-le, not-le-of-lt, mul-assoc, mul-comm, mul-right-comm, mul-one, one-mul, add-mul, mul-pos, mul-le-mul-right, mul-le-mul-left, eq-of-mul-eq-mul-right, div-one, zero-add, pow-suc, pow-succ'}
 use native.Mathlib.Omega.{arith}
-use lib.IntN.{ℤ}
 use lib.Dec.{T}
-use lib.Pow.{pow-add, pow-pos, pow-mono, pow-lt, add-lt-pow}
-use lib.Ieee.{Float, nan, inf, fin, binary32, up, down, size, round, sum, add, mul, ofBits, toBits, fits}
-use lib.Ieee.Bits.{ofBits-toBits}
+use lib.Pow.{pow-add, pow-pos, pow-mono, pow-lt}
+use lib.Ieee.{Float, nan, inf, fin, binary32, up, down, size, round, sum, add, mul, fits}
 use lib.Ieee.Digits.{size-lt, size-le, size-reaches}
 use lib.Ieee.Exact.{HasValue, round-exact}
-use lib.Ieee.Fits.{down-pos, nearest-le, kept-lt, mul-fits}
+use lib.Ieee.Fits.{down-pos, nearest-le, kept-lt}
 use lib.Ieee.Nearest.{closest, closest-same, div-same}
-use lib.Ieee.Order.{drop, kept}
-use lib.Ieee.Scale.{round-same, round-val, grid, finite}
-use Rattle.limits.specs.Taken.{signBit, rootOperandTaken}
-use Rattle.limits.proofs.Floats.{operand-pattern}
+use lib.Ieee.Order.{drop}
+use lib.Ieee.Scale.{round-same, round-val, grid}
 use Rattle.halving.specs.Midpoint.{midpoint}
 use Rattle.halving.specs.Patterns.{worth}
 use Rattle.halving.proofs.Least.{below-or-not}
 use Rattle.halving.proofs.Closest.{dist, closest-nearest}
-use Rattle.halving.proofs.Patterns.{Normal, small-or-normal, worth-small, worth-normal, worth-next, worth-le, pattern-value}
+use Rattle.halving.proofs.Patterns.{Normal, small-or-normal, worth-small, worth-normal}
 
 power : (i j : ℕ) → i ≤ j → 2 ^ i ≤ 2 ^ j
 power i j h = pow-mono h

@@ -2,19 +2,19 @@
 use mathlib.Core.Path.{_≡_, refl, sym, ap, _∙_, subst}
 use mathlib.Core.Logic.{_⊎_, inl, inr}
 use mathlib.Core.Bool.{Bool, true, false, not, _&&_, _||_, true≢false}
-use Prim.Native.Nat.{ℕ, suc, _+_, _-_, _*_, _^_, _≤_, _<_}
+use Prim.Native.Nat.{ℕ, suc, _-_, _*_, _^_, _≤_, _<_}
 use native.Mathlib.Nat.{le-trans, le-of-eq, le-antisymm, lt-of-not-le, not-le-of-lt, mul-assoc, mul-right-comm, mul-le-mul-right, mul-lt-mul-of-pos-right, le-of-mul-le-mul-right}
 use native.Mathlib.Omega.{arith}
 use lib.IntN.{ℤ}
 use lib.Dec.{T, leb, ltb, eqb}
 use lib.Pow.{pow-pos, pow-add}
-use lib.Ieee.{Float, nan, inf, fin, binary32, up, down, ofBits, toBits, fits, isNan, lt, eq, le, ofInt}
-use lib.Ieee.Bits.{ofBits-toBits, toBits-ofBits, ofBits-fits, is-true}
+use lib.Ieee.{Float, nan, inf, fin, binary32, up, down, ofBits, toBits, fits, isNan, lt, eq, le}
+use lib.Ieee.Bits.{ofBits-toBits, toBits-ofBits, ofBits-fits}
 use lib.Ieee.Exact.{HasValue}
 use lib.Ieee.Fits.{down-pos}
-use lib.Ieee.Order.{transfer, le-of-values}
+use lib.Ieee.Order.{transfer}
 use borrow.Author.Tests.{leb-true, leb-false, ltb-true, ltb-false, lt-ltb, le-ltb, le-leb, lt-leb, eq-eqb, ne-eqb}
-use Rattle.limits.specs.Taken.{signBit, rootOperandTaken, f32Of, upTo, entryTaken, chromaTaken}
+use Rattle.limits.specs.Taken.{signBit, rootOperandTaken, f32Of, upTo}
 use Rattle.limits.proofs.Floats.{never, operand-pattern}
 use Rattle.halving.specs.Patterns.{worth, next}
 use Rattle.halving.proofs.Least.{below-or-not}

@@ -2,16 +2,15 @@
 -- 2 ^ -149, what is left, w, has w * 2 ^ n + e ≤ (what there was) + 2 ^ n * e (`width`). With g the least distance of neighbours, and less than (n + 2) * g between lo and hi,
 -- n halvings leave them equal or neighbouring (`closed`). Assumes nothing.
 use mathlib.Core.Path.{_≡_, refl, sym, ap, _∙_, subst}
-use mathlib.Core.Logic.{_⊎_, inl, inr}
+use mathlib.Core.Logic.{inl, inr}
 use mathlib.Core.Bool.{Bool, true, false}
 use Prim.Native.Nat.{ℕ, zero, suc, _+_, _-_, _*_, _^_, _≤_, _<_}
-use native.Mathlib.Nat.{le-trans, le-of-eq, le-refl, lt-of-le-of-lt, lt-of-lt-of-le, mul-assoc, mul-comm, mul-one, one-mul, suc-mul, pow-suc, pow-succ'}
+use native.Mathlib.Nat.{le-trans, le-of-eq, le-refl, lt-of-le-of-lt, lt-of-lt-of-le, mul-assoc, mul-one, one-mul, suc-mul, pow-suc, pow-succ'}
 use native.Mathlib.Omega.{arith}
 use lib.Dec.{T}
 use lib.Pow.{add-lt-pow}
 use lib.Ieee.{Float, nan, inf, fin, binary32, ofBits, toBits, mul, add, round}
 use lib.Ieee.Bits.{ofBits-toBits}
-use lib.Ieee.Exact.{HasValue}
 use lib.Ieee.Fits.{mul-fits}
 use Rattle.limits.specs.Taken.{signBit, rootOperandTaken}
 use Rattle.limits.proofs.Floats.{operand-pattern}

@@ -4,16 +4,16 @@ use mathlib.Core.Path.{_≡_, refl, sym, ap, _∙_, subst}
 use mathlib.Core.Logic.{_⊎_, inl, inr}
 use mathlib.Core.Bool.{Bool, true, false, _&&_, cond}
 use mathlib.Core.List.{List, [], _∷_, map}
-use Prim.Native.Nat.{ℕ, zero, suc, _+_, _%_, _≤_, _<_}
+use Prim.Native.Nat.{ℕ, zero, suc, _%_, _≤_, _<_}
 use native.Mathlib.Nat.{le-of-suc-le-suc, not-suc-le-zero, mod-eq-of-lt, le-refl}
 use native.Mathlib.Omega.{arith}
 use lib.Dec.{T, leb, eqb}
-use lib.Ieee.{Float, nan, inf, fin, binary32, fits, toBits, lt, le, eq, ofInt}
+use lib.IntN.{pos}
+use lib.Ieee.{Float, nan, inf, binary32, isNan, toBits, lt, le, ofInt}
 use lib.Ieee.Fits.{nan-fits, inf-fits, cond-fits, ofInt-fits}
 use lib.ListN.{length, getD}
 use borrow.Author.Tests.{eqb-true, le-leb}
-use Rattle.limits.specs.Taken.{f32Of, upTo, entryTaken, every}
-use Rattle.limits.proofs.Floats.{never}
+use Rattle.limits.specs.Taken.{f32Of, upTo, signClear, signBit, entryTaken, every}
 use Rattle.limits.proofs.HueCount.{both}
 use Rattle.halving.proofs.Plain.{Plain, le-plain, le-through, not-lt-le, lt-then-le, infinity-above, taken-plain}
 use Rattle.placement.specs.Placing.{allowedAt}
@@ -149,8 +149,8 @@ all-plain (x ∷ xs) F h =
     (taken-is-plain x (F .0) (t .0), all-plain xs (F .1) (t .1))
 
 zero-plain : Plain (f32Of 0)
-unfolding upTo Rattle.limits.specs.Taken.signClear Rattle.limits.specs.Taken.signBit lib.Ieee.isNan ofInt lt
-zero-plain = taken-plain (f32Of 0) (ofInt-fits binary32 (lib.IntN.pos 0)) refl .0
+unfolding upTo signClear signBit isNan ofInt lt
+zero-plain = taken-plain (f32Of 0) (ofInt-fits binary32 (pos 0)) refl .0
 
 -- ---- rows that are taken
 module _ (rows : List (List Float)) (lengths : lengthsTaken rows ≡ true) (entries : entriesTaken rows ≡ true) (f32 : RowsF32 rows) where

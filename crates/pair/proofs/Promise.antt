@@ -3,37 +3,34 @@
 use mathlib.Core.Path.{_≡_, refl, sym, ap, _∙_, subst}
 use mathlib.Core.Logic.{_⊎_, inl, inr}
 use mathlib.Core.Bool.{Bool, true, false, _&&_, cond}
-use mathlib.Core.List.{List, [], _∷_}
+use mathlib.Core.List.{List}
 use Prim.Native.Nat.{ℕ, _≤_, _<_}
 use native.Mathlib.Omega.{arith}
 use lib.Dec.{T, leb}
 use lib.Ieee.{Float, binary32, toBits, lt, le}
-use lib.ListN.{length, take, replicate}
+use lib.ListN.{length, getD, take, replicate}
 use borrow.Author.Tests.{leb-true}
 use Rattle.limits.specs.Answers.{Said, value, refused}
-use Rattle.limits.specs.Taken.{f32Of, hueCountTaken, chromaTaken, entryTaken, every}
+use Rattle.limits.specs.Taken.{f32Of, upTo, hueCountTaken, chromaTaken}
 use Rattle.limits.proofs.Floats.{never}
 use Rattle.limits.proofs.HueCount.{both, hue-count}
 use Rattle.halving.specs.Midpoint.{halved, halve}
 use Rattle.halving.specs.Patterns.{next}
-use Rattle.halving.specs.Ends.{Closed}
 use Rattle.halving.proofs.Halve.{kept}
 use Rattle.halving.proofs.Range.{halve-up-to, taken-up-to, up-to-taken}
 use Rattle.halving.proofs.Plain.{Plain, le-through, not-lt-le, not-le-lt, le-not-lt, lt-then-le, taken-plain, next-plain, next-above}
 use Rattle.halving.proofs.EndState.{end-state, end-plain, end-above}
 use Rattle.placement.specs.Ring.{Places, nowhere, placed, placement}
-use Rattle.placement.specs.Placing.{allowedAt, workNeeded, sixteen, stores, checkedRing}
+use Rattle.placement.specs.Placing.{allowedAt, workNeeded, sixteen, stores}
 use Rattle.placement.specs.Spacing.{Spaced}
 use Rattle.placement.proofs.Laws.{sound, complete}
 use Rattle.placement.proofs.First.{round}
-use Rattle.placement.proofs.Checking.{ring-passes}
 use Rattle.placement.proofs.Stored.{first-stored}
 use Rattle.pair.specs.Rows.{valueAt, ringLength, leastRow, largest, common}
 use Rattle.pair.specs.Pair.{Best, none, found, placedAt, some, placeable, withHues, bestOver, lengthsTaken, entriesTaken, rowsChecked, rowsSay}
 use Rattle.pair.specs.Limit.{Each, F32, RowsF32, Hues, Limit, Below}
-use Rattle.pair.specs.Inner.{pass}
 use Rattle.pair.proofs.Rows.{least-long, least-taken, largest-up-to}
-use Rattle.pair.proofs.Choices.{most-plain, value-most, may-be-placed, spaced-hues, spaced-values, spaced-rows, to-common, of-common, common-plain, le-self, each-at}
+use Rattle.pair.proofs.Choices.{value-plain, most-plain, value-most, may-be-placed, spaced-hues, spaced-values, spaced-rows, to-common, of-common, common-plain, le-self, each-at}
 
 -- ---- rows and arguments that are taken
 module _ (k step : ℕ) (floor : Float) (rows : List (List Float)) (some-hue : 1 ≤ k) (few-hues : k ≤ 16) (some-step : 1 ≤ step) (within : step ≤ ringLength rows)
@@ -76,10 +73,10 @@ module _ (k step : ℕ) (floor : Float) (rows : List (List Float)) (some-hue : 1
       let v = common rows is in
       let V' = plain is s in
       let e = s .count in
-      let i = lib.ListN.getD is 0 0 in
+      let i = getD is 0 0 in
       let w : i < n = s .within 0 (omega arith) in
       let a : le v (valueAt rows i) ≡ true = each-at (λ (j : ℕ). le v (valueAt rows j) ≡ true) is (of-common rows lengths entries f32 v V' k step is s (le-self v V')) 0 (omega arith) in
-      le-through v (valueAt rows i) (largest row) V' (Rattle.pair.proofs.Choices.value-plain rows lengths entries f32 i w) (most-plain rows lengths entries f32) a (value-most rows lengths entries f32 i w)
+      le-through v (valueAt rows i) (largest row) V' (value-plain rows lengths entries f32 i w) (most-plain rows lengths entries f32) a (value-most rows lengths entries f32 i w)
 
   -- what cannot be placed at c has less than c in common
   less-common : (c : Float) (is : List ℕ) → Plain c → Hues n k step is → placeable k step row c ≡ false → lt (common rows is) c ≡ true
@@ -104,7 +101,7 @@ module _ (k step : ℕ) (floor : Float) (rows : List (List Float)) (some-hue : 1
     unfolding chromaTaken
     floor-plain = taken-plain floor F taken .0
 
-    most-taken : Rattle.limits.specs.Taken.upTo (f32Of 200) most ≡ true
+    most-taken : upTo (f32Of 200) most ≡ true
     most-taken = up-to-taken 200 most (omega arith) (largest-up-to row (least-taken rows lengths entries))
 
     -- none

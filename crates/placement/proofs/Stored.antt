@@ -1,9 +1,9 @@
 -- The first k of the sixteen hues that are handed out are the k that were placed. Assumes nothing.
-use mathlib.Core.Path.{_≡_, refl, sym, ap, _∙_}
+use mathlib.Core.Path.{_≡_, refl, ap, _∙_}
 use mathlib.Core.List.{List, [], _∷_}
-use Prim.Native.Nat.{ℕ, zero, suc, _≤_}
+use Prim.Native.Nat.{ℕ, suc, _≤_}
 use native.Mathlib.Nat.{le-of-suc-le-suc, not-suc-le-zero}
-use lib.ListN.{length, take, set, replicate}
+use lib.ListN.{length, take, set}
 use Rattle.placement.specs.Placing.{stores}
 
 -- what is stored one place further on leaves the first as it is

@@ -1,10 +1,10 @@
 -- Start is accepted exactly on document 01's conditions, and so is step (`start-exactly`, `step-exactly`); a record passes the test of number 15 exactly where every field is in
 -- its range (`unbroken-exactly`). Assumes nothing.
-use mathlib.Core.Path.{_≡_, refl, sym, ap, _∙_, subst}
+use mathlib.Core.Path.{_≡_, refl, ap, subst}
 use mathlib.Core.Logic.{_↔_}
-use mathlib.Core.Bool.{Bool, true, false, not, _&&_, cond, true≢false}
+use mathlib.Core.Bool.{Bool, true, false, _&&_, cond}
 use mathlib.Core.List.{List, [], _∷_}
-use Prim.Native.Nat.{ℕ, zero, suc, _+_, _*_, _/_, _%_, _≤_, _<_, zero-le}
+use Prim.Native.Nat.{ℕ, zero, suc, _*_, _/_, _%_, _≤_, _<_, zero-le}
 use native.Mathlib.Nat.{not-suc-le-zero, le-of-suc-le-suc, mod-lt, div-lt-iff-lt-mul}
 use native.Mathlib.Omega.{arith}
 use lib.Dec.{leb, ltb, eqb}
@@ -13,10 +13,8 @@ use lib.ListN.{length, getD}
 use borrow.Author.Tests.{leb-true, ltb-true, eqb-true, le-leb, lt-ltb, eq-eqb}
 use Rattle.limits.specs.Answers.{Said, value, refused}
 use Rattle.limits.specs.Taken.{f32Of, hueCountTaken, gapTaken, entryTaken, every}
-use Rattle.limits.proofs.Floats.{never}
 use Rattle.limits.proofs.HueCount.{both, hue-count}
 use Rattle.placement.specs.Placing.{workNeeded}
-use Rattle.pair.specs.Limit.{Each}
 use Rattle.search.specs.declared.Settings.{Settings}
 use Rattle.search.specs.declared.Best.{Best}
 use Rattle.search.specs.declared.Best.the-variants.{None, Found}

@@ -1,7 +1,7 @@
 -- A list of calls that meets what `whole-runs` asks: a start with two hues and a gap of 0 over a table of three levels with 50 everywhere, and all its nine steps, from any job
 -- record. Assumes nothing.
 use mathlib.Core.Path.{_≡_, refl}
-use mathlib.Core.List.{List, [], _∷_}
+use mathlib.Core.List.{List}
 use Prim.Native.Nat.{ℕ, zero, suc}
 use native.Mathlib.Omega.{arith}
 use lib.IntN.{pos}

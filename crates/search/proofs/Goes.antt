@@ -5,31 +5,33 @@ use mathlib.Core.Logic.{_⊎_, inl, inr}
 use mathlib.Core.Bool.{Bool, true, false, not, _&&_, cond}
 use mathlib.Core.List.{List, [], _∷_}
 use Prim.Native.Nat.{ℕ, zero, suc, _+_, _*_, _/_, _%_, _≤_, _<_}
-use native.Mathlib.Nat.{le-refl, le-of-suc-le-suc, not-suc-le-zero, mod-lt, div-lt-iff-lt-mul, add-zero, add-suc}
+use native.Mathlib.Nat.{le-of-suc-le-suc, not-suc-le-zero, mod-lt, div-lt-iff-lt-mul, add-zero}
 use native.Mathlib.Omega.{arith}
-use lib.Dec.{T, leb, ltb, eqb}
-use lib.Ieee.{Float, binary32, lt, le}
+use lib.Dec.{T, leb, ltb}
+use lib.IntN.{pos}
+use lib.Ieee.{Float, binary32, isNan, ofInt, lt, le}
+use lib.Ieee.Fits.{ofInt-fits}
 use lib.ListN.{length, getD, replicate}
 use borrow.Author.Tests.{le-leb, lt-ltb, eq-eqb, not-true}
 use Rattle.limits.specs.Answers.{Said, value, refused}
-use Rattle.limits.specs.Taken.{f32Of, hueCountTaken, gapTaken, chromaTaken, upTo, signClear, entryTaken, every}
-use Rattle.limits.proofs.Floats.{never}
+use Rattle.limits.specs.Taken.{f32Of, chromaTaken, upTo, signClear, signBit}
 use Rattle.limits.proofs.HueCount.{both, hue-count}
-use Rattle.halving.proofs.Plain.{Plain, le-through, not-lt-le}
+use Rattle.halving.proofs.Plain.{le-through, not-lt-le}
 use Rattle.placement.specs.Placing.{stepFor, workNeeded, stores}
 use Rattle.placement.proofs.Stored.{stored-next}
-use Rattle.pair.specs.Rows.{leastRow}
-use Rattle.pair.specs.Pair.{Best, none, found, rowsSay}
-use Rattle.pair.specs.Limit.{Each, F32}
+use Rattle.pair.specs.Pair as pair
+use Rattle.pair.specs.Pair.{none, found}
+use Rattle.pair.specs.Limit.{F32}
 use Rattle.pair.proofs.Promise.{Handed, what-is-handed}
 use Rattle.search.specs.declared.Settings.{Settings}
-use Rattle.search.specs.declared.Best.the-variants.{None, Found}
+use Rattle.search.specs.declared.Best.{Best}
+use Rattle.search.specs.declared.Best.the-variants.{Found}
 use Rattle.search.specs.declared.Job.{Job}
-use Rattle.search.specs.Job.{levelsIn, rowAt, tableTaken, begun, startChecked, startSays, bestHeld, handed, huesHeld, unbroken, qualifies, floorOf, beats, movedOn, replaced, afterPair, pairBest, searched, stepChecked, stepSays, jobAfter, stepsFrom, searchSays}
-use Rattle.search.specs.Runs.{Call, start, step, given, run, History, since, unstarted, noted, historyFrom, history, OverOneTable, Lent, steps, wholeSearch}
+use Rattle.search.specs.Job.{levelsIn, rowAt, begun, startChecked, startSays, bestHeld, handed, huesHeld, unbroken, qualifies, floorOf, beats, movedOn, replaced, afterPair, pairBest, searched, stepChecked, stepSays, jobAfter, stepsFrom, searchSays}
+use Rattle.search.specs.Runs.{start, step, run, since, unstarted, noted, historyFrom, history, OverOneTable, Lent, steps, wholeSearch}
 use Rattle.search.specs.Accepted.{StartTaken}
-use Rattle.search.proofs.Sound.{Sound, sound, floor-taken}
-use Rattle.search.proofs.Laws.{Good, whole, long, rows-f32, pair-says, chroma-plain, held-chroma, thirty-five, floor-f32, floor-from, BestF32, row-taken}
+use Rattle.search.proofs.Sound.{sound, floor-taken}
+use Rattle.search.proofs.Laws.{Good, whole, long, rows-f32, pair-says, chroma-plain, thirty-five, floor-f32, floor-from, BestF32, row-taken}
 use Rattle.search.proofs.Accepted.{joined, count-taken, start-passing, start-given, unbroken-only, hues-of}
 
 -- ---- sixteen hues of which k are placed
@@ -58,10 +60,10 @@ pub record Went (t : List Float) (j : Job) (d l : ℕ) (j' : Job) : Type 0 where
   pub kept-or-pair : ((j' .best ≡ j .best) × (j' .hues ≡ j .hues)) ⊎ ((c : Float) × ((hues : List ℕ) × ((pairBest j t d l ≡ found c hues) × ((j' .best ≡ Found c d l) × (j' .hues ≡ hues)))))
 
 at-most-200 : (c : Float) → F32 c → chromaTaken c ≡ true → le c (f32Of 200) ≡ true
-unfolding chromaTaken upTo signClear lib.Ieee.isNan Rattle.limits.specs.Taken.signBit lib.Ieee.ofInt lt
+unfolding chromaTaken upTo signClear isNan signBit ofInt lt
 at-most-200 c F h =
     let p = chroma-plain c F h .0 in
-    let q = chroma-plain (f32Of 200) (lib.Ieee.Fits.ofInt-fits binary32 (lib.IntN.pos 200)) refl .0 in
+    let q = chroma-plain (f32Of 200) (ofInt-fits binary32 (pos 200)) refl .0 in
     not-lt-le (f32Of 200) c q p (not-true (lt (f32Of 200) c) (both (signClear c) (not (lt (f32Of 200) c)) h .1))
 
 module _ (t : List Float) (good : Good t) (j : Job) (u : unbroken j ≡ true) (unfinished : j .position < j .levels * j .levels) (same : j .levels ≡ levelsIn t) (f32 : BestF32 (j .best)) where
@@ -90,7 +92,7 @@ module _ (t : List Float) (good : Good t) (j : Job) (u : unbroken j ≡ true) (u
   L' = let e = same in let h = L in omega arith
 
   -- the tests of number 15 at the next position, with a best and hues that are held
-  still : (b : Rattle.search.specs.declared.Best.Best) (hues : List ℕ) → bestHeld m b ≡ true → huesHeld (handed (j .settings .k) b) hues ≡ true
+  still : (b : Best) (hues : List ℕ) → bestHeld m b ≡ true → huesHeld (handed (j .settings .k) b) hues ≡ true
       → unbroken (record { settings = j .settings; levels = m; position = j .position + 1; best = b; hues = hues }) ≡ true
   unfolding unbroken
   still b hues p q =
@@ -154,7 +156,7 @@ module _ (t : List Float) (good : Good t) (j : Job) (u : unbroken j ≡ true) (u
       let size : length t ≡ m * 720 = whole t good ∙ ap (λ (x : ℕ). x * 720) (sym same) in
       rw (u, lt-ltb (j .position) (m * m) unfinished, eq-eqb (length t) (m * 720) size, le-leb 2160 room r, row-taken t good d, row-taken t good l) (go (qualifies (j .settings) d l) (pairBest j t d l) refl)
     where
-      go : (q : Bool) (best : Best) → pairBest j t d l ≡ best → (j' : Job) × ((cond q (value (afterPair j d l best)) (value (movedOn j)) ≡ value j') × Went t j d l j')
+      go : (q : Bool) (best : pair.Best) → pairBest j t d l ≡ best → (j' : Job) × ((cond q (value (afterPair j d l best)) (value (movedOn j)) ≡ value j') × Went t j d l j')
       go false best e = (movedOn j, (refl, on))
       go true none e = (movedOn j, (refl, on))
       go true (found c' hues) e = (cond (beats c' (j .best)) (replaced j c' d l hues) (movedOn j), (refl, either c' hues e (beats c' (j .best))))

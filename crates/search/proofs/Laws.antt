@@ -1,18 +1,18 @@
 -- Laws of one call. The rows of a table that is taken are rows that a pair takes; what a pair at the job's position gives; and the promise of demand 3 is kept by an accepted
 -- step, whatever the record was as long as the promise held of it. Assumes nothing.
 use mathlib.Core.Path.{_≡_, refl, sym, ap, _∙_, subst}
-use mathlib.Core.Logic.{_⊎_, inl, inr}
-use mathlib.Core.Bool.{Bool, true, false, not, _&&_, cond, true≢false}
+use mathlib.Core.Logic.{inl, inr}
+use mathlib.Core.Bool.{Bool, true, false, _&&_, cond}
 use mathlib.Core.List.{List, [], _∷_}
-use Prim.Native.Nat.{ℕ, zero, suc, _+_, _-_, _*_, _/_, _%_, _≤_, _<_, min}
-use native.Mathlib.Nat.{le-trans, le-refl, mul-le-mul-right, suc-mul, mul-add-div-right, mul-add-mod-self-right, mod-eq-of-lt, div-eq-of-lt, add-zero, min-eq-left, mod-lt, div-lt-iff-lt-mul, div-add-mod', not-suc-le-zero}
+use Prim.Native.Nat.{ℕ, zero, suc, _+_, _-_, _*_, _/_, _%_, _≤_, _<_}
+use native.Mathlib.Nat.{le-refl, mul-le-mul-right, suc-mul, mul-add-div-right, mul-add-mod-self-right, mod-eq-of-lt, div-eq-of-lt, add-zero, min-eq-left, mod-lt, div-lt-iff-lt-mul, div-add-mod', not-suc-le-zero}
 use native.Mathlib.Omega.{arith}
 use lib.Dec.{T, leb, ltb, eqb}
 use lib.IntN.{pos}
 use lib.Ieee.{Float, binary32, toBits, isNan, lt, le, ofInt}
 use lib.Ieee.Fits.{ofInt-fits}
 use lib.ListN.{length, take, drop, length-take, length-drop, replicate}
-use borrow.Author.Tests.{leb-true, ltb-true, eqb-true, eq-eqb, le-leb}
+use borrow.Author.Tests.{ltb-true}
 use Rattle.limits.specs.Answers.{Said, value, refused}
 use Rattle.limits.specs.Taken.{f32Of, hueCountTaken, gapTaken, chromaTaken, upTo, signClear, signBit, entryTaken, every}
 use Rattle.limits.proofs.Floats.{never}
@@ -22,19 +22,20 @@ use Rattle.halving.proofs.Least.{below-or-not}
 use Rattle.halving.proofs.Plain.{Plain, le-through, not-le-lt, lt-then-le, not-lt-le, le-not-lt, taken-plain, next-plain, next-above, next-le}
 use Rattle.placement.specs.Placing.{stepFor, workNeeded, stores}
 use Rattle.placement.proofs.Stored.{first-stored}
-use Rattle.pair.specs.Rows.{leastRow, ringLength, common}
-use Rattle.pair.specs.Pair.{bestOver, rowsSay, lengthsTaken, entriesTaken, alike}
-use Rattle.pair.specs.Limit.{Each, F32, RowsF32, Hues, Limit, Below}
+use Rattle.pair.specs.Rows.{leastRow, ringLength}
+use Rattle.pair.specs.Pair as pair
+use Rattle.pair.specs.Pair.{none, found, bestOver, rowsSay, lengthsTaken, entriesTaken, alike}
+use Rattle.pair.specs.Limit.{Each, F32, RowsF32, Hues, Limit}
 use Rattle.pair.proofs.Choices.{common-plain, le-self}
 use Rattle.pair.proofs.Promise.{Handed, best-is-limit, none-is-none, what-is-handed}
 use Rattle.search.specs.declared.Settings.{Settings}
 use Rattle.search.specs.declared.Best.{Best}
 use Rattle.search.specs.declared.Best.the-variants.{None, Found}
 use Rattle.search.specs.declared.Job.{Job}
-use Rattle.search.specs.Job.{levelsIn, rowAt, tableTaken, bestHeld, handed, huesHeld, unbroken, qualifies, floorOf, beats, movedOn, replaced, afterPair, pairBest, searched, stepChecked, stepSays, begun, startChecked, startSays}
+use Rattle.search.specs.Job.{levelsIn, rowAt, tableTaken, bestHeld, unbroken, qualifies, floorOf, beats, movedOn, replaced, afterPair, pairBest, searched, stepChecked, stepSays, begun, startChecked, startSays}
 use Rattle.search.specs.Runs.{Choice, commonOf, Promise}
 use Rattle.search.proofs.Checking.{Levelled, levelled}
-use Rattle.search.proofs.Sound.{Sound, sound, chroma-between, floor-taken, step-taken, rows-left}
+use Rattle.search.proofs.Sound.{sound, chroma-between, floor-taken, step-taken, rows-left}
 use Rattle.search.proofs.Apart.{far-apart, qualified}
 
 -- ---- parts of a list
@@ -135,7 +136,7 @@ module _ (t : List Float) (good : Good t) where
         rows-left k (stepFor k) floor (rowAt t d) (rowAt t l) 2160 x (s .hue-count-taken) (step-taken k (s .hue-count-taken)) (floor-taken (j .levels) (j .best) (s .best-held)) (long d D) (long l L) (le-refl 2160)
         ∙ picked x
       where
-        picked : (x : Said Rattle.pair.specs.Pair.Best) → cond (every entryTaken (rowAt t d) && every entryTaken (rowAt t l)) x (refused 7) ≡ x
+        picked : (x : Said pair.Best) → cond (every entryTaken (rowAt t d) && every entryTaken (rowAt t l)) x (refused 7) ≡ x
         picked x = rw (row-taken d, row-taken l)
 
 -- ---- a choice at n + 1 is one at n, or stands at the pair of position n
@@ -288,7 +289,7 @@ module _ (t : List Float) (s : Settings) (n : ℕ) (j : Job) (kept : Kept t s n 
   }
 
   -- ---- another best
-  module _ (c' : Float) (hues : List ℕ) (rows-said : rowsSay (s .k) (stepFor (s .k)) (floorOf (j .best)) (rowAt t d₀ ∷ rowAt t l₀ ∷ []) 2160 ≡ value (Rattle.pair.specs.Pair.found c' hues)) where
+  module _ (c' : Float) (hues : List ℕ) (rows-said : rowsSay (s .k) (stepFor (s .k)) (floorOf (j .best)) (rowAt t d₀ ∷ rowAt t l₀ ∷ []) 2160 ≡ value (found c' hues)) where
     abbrev rows₀ : List (List Float)
     rows₀ = rowAt t d₀ ∷ rowAt t l₀ ∷ []
 
@@ -447,7 +448,7 @@ module _ (t : List Float) (j : Job) (kept : Kept t (j .settings) (j .position) j
           never (sym q ∙ ap (λ (z : ℕ). qualifies s z light₀) a ∙ ap (λ (z : ℕ). qualifies s (x .dark) z) b ∙ f)
 
   -- nothing reaches the floor
-  none-there : pairBest j t dark₀ light₀ ≡ Rattle.pair.specs.Pair.none → After (movedOn j)
+  none-there : pairBest j t dark₀ light₀ ≡ none → After (movedOn j)
   none-there e = moved t s n j kept u unfinished up no
     where
       low : (x : Choice t s (suc n)) → dark₀ ≡ x .dark → light₀ ≡ x .light → lt (commonOf t (x .dark) (x .light) (x .hues)) (floorOf (j .best)) ≡ true
@@ -474,7 +475,7 @@ module _ (t : List Float) (j : Job) (kept : Kept t (j .settings) (j .position) j
           never (sym (le-not-lt (f32Of 35) w thirty-five p h) ∙ below)
 
   -- a chroma is found
-  found-there : qualifies s dark₀ light₀ ≡ true → (c' : Float) (hues : List ℕ) → pairBest j t dark₀ light₀ ≡ Rattle.pair.specs.Pair.found c' hues
+  found-there : qualifies s dark₀ light₀ ≡ true → (c' : Float) (hues : List ℕ) → pairBest j t dark₀ light₀ ≡ found c' hues
       → (b : Bool) → beats c' (j .best) ≡ b → After (cond b (replaced j c' dark₀ light₀ hues) (movedOn j))
   found-there q c' hues e true b = replacing t s n j kept u unfinished c' hues (said-pair ∙ ap value e) q
   found-there q c' hues e false b = moved t s n j kept u unfinished up (λ f x a g h. never (sym b ∙ ap (beats c') f))
@@ -493,12 +494,12 @@ module _ (t : List Float) (j : Job) (kept : Kept t (j .settings) (j .position) j
   unfolding searched
   went j' h = go (qualifies s dark₀ light₀) refl (every entryTaken (rowAt t dark₀) && every entryTaken (rowAt t light₀)) (pairBest j t dark₀ light₀) refl h
     where
-      go : (q : Bool) → qualifies s dark₀ light₀ ≡ q → (e : Bool) (best : Rattle.pair.specs.Pair.Best) → pairBest j t dark₀ light₀ ≡ best
+      go : (q : Bool) → qualifies s dark₀ light₀ ≡ q → (e : Bool) (best : pair.Best) → pairBest j t dark₀ light₀ ≡ best
           → cond q (cond e (value (afterPair j dark₀ light₀ best)) (refused 7)) (value (movedOn j)) ≡ value j' → After j'
       go false q e best b h = subst After (same-job (movedOn j) j' h) (passed-over q)
       go true q false best b h = absurd (let z : _≡_ {A = ℕ} 0 1 = cc in omega arith)
-      go true q true Rattle.pair.specs.Pair.none b h = subst After (same-job (movedOn j) j' h) (none-there b)
-      go true q true (Rattle.pair.specs.Pair.found c' hues) b h =
+      go true q true none b h = subst After (same-job (movedOn j) j' h) (none-there b)
+      go true q true (found c' hues) b h =
           subst After (same-job (cond (beats c' (j .best)) (replaced j c' dark₀ light₀ hues) (movedOn j)) j' h) (found-there q c' hues b (beats c' (j .best)) refl)
 
 pub step-kept : (t : List Float) (s : Settings) (n : ℕ) (j j' : Job) (room : ℕ) → Kept t s n j → stepSays j t room ≡ value j' → Kept t s (suc n) j'

@@ -1,7 +1,7 @@
 -- Document 01, "The job": what start and step hand back for every job record, table and work buffer. Definitions only.
 use Prim.Native.Nat.{ℕ, zero, suc, _+_, _*_, _/_, _%_}
 use mathlib.Core.Path.{_≡_}
-use mathlib.Core.Bool.{Bool, true, false, not, _&&_, cond}
+use mathlib.Core.Bool.{Bool, true, not, _&&_, cond}
 use mathlib.Core.List.{List, [], _∷_}
 use lib.Dec.{leb, ltb, eqb}
 use lib.Ieee.{Float, binary32, add, sub, lt, le}
@@ -12,6 +12,7 @@ use Rattle.limits.specs.Taken.{f32Of, hueCountTaken, gapTaken, entryTaken, ever
 use Rattle.gamut.specs.Gamut.{levelOf}
 use Rattle.placement.specs.Placing.{stepFor, workNeeded}
 use Rattle.pair.specs.Rows.{leastRow}
+use Rattle.pair.specs.Pair as pair
 use Rattle.pair.specs.Pair.{bestOver, none, found}
 use Rattle.search.specs.declared.Settings.{Settings}
 use Rattle.search.specs.declared.Best.{Best}
@@ -115,12 +116,12 @@ abbrev pub replaced : Job → Float → ℕ → ℕ → List ℕ → Job
 replaced j c d l hues = record { settings = j .settings; levels = j .levels; position = j .position + 1; best = Found c d l; hues = hues }
 
 -- the job after a pair whose best is this
-abbrev pub afterPair : Job → ℕ → ℕ → Rattle.pair.specs.Pair.Best → Job
+abbrev pub afterPair : Job → ℕ → ℕ → pair.Best → Job
 afterPair j d l none = movedOn j
 afterPair j d l (found c hues) = cond (beats c (j .best)) (replaced j c d l hues) (movedOn j)
 
 -- the best of the pair of levels d and l, from the job's floor
-unfoldable pub pairBest : Job → List Float → ℕ → ℕ → Rattle.pair.specs.Pair.Best
+unfoldable pub pairBest : Job → List Float → ℕ → ℕ → pair.Best
 pairBest j table d l = bestOver (j .settings .k) (stepFor (j .settings .k)) (floorOf (j .best)) (leastRow (rowAt table d ∷ rowAt table l ∷ []))
 
 -- the pair at d and l: "A step checks 7 only on the two rows it reads, and reads none where the gap is too small."

@@ -14,7 +14,6 @@ use Rattle.placement.specs.Placing.{stepFor}
 use Rattle.pair.specs.Rows.{common}
 use Rattle.pair.specs.Limit.{Hues}
 use Rattle.search.specs.declared.Settings.{Settings}
-use Rattle.search.specs.declared.Best.{Best}
 use Rattle.search.specs.declared.Best.the-variants.{None, Found}
 use Rattle.search.specs.declared.Job.{Job}
 use Rattle.search.specs.Job.{levelsIn, rowAt, startSays, stepSays, jobAfter}
