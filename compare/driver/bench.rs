@@ -1,12 +1,12 @@
-//! Times the filling of a whole gamut table, placements on rings of it, and pairs of its rows,
-//! by our archive and by the published Rust, in turns. See compare/README.md.
+//! Times the filling of a whole gamut table, placements on rings of it, pairs of its rows, and
+//! whole searches of it, by our archive and by the published Rust, in turns. See
+//! compare/README.md.
 
 mod big;
 mod chroma; // max_chroma and l_of, taken from the published file by compare/build
 #[allow(dead_code)]
 mod color; // the published file, patched by compare/build
-#[allow(dead_code)]
-mod pairing; // best_for_levels and its table, taken from the published file by compare/build
+mod pairing; // best_for_levels, search and their table, taken from the published file by compare/build
 mod palette; // the white point, taken from the published file by compare/build
 mod placing; // feasible, place_from and the step, taken from the published file by compare/build
 #[allow(dead_code)]
@@ -17,14 +17,20 @@ use std::time::Instant;
 
 /// How many times each side fills its table, makes all placements, and searches all pairs.
 const TURNS: usize = 41;
+/// How many times each side searches the whole table for one hue count.
+const SEARCH_TURNS: usize = 15;
 /// What each hue is before a placement.
 const BEFORE: u16 = 4711;
-/// What the chroma is before a pair.
+/// What the chroma is before a pair or a search.
 const BEFORE_CHROMA: f32 = 47.11;
+/// What each level index is before a search.
+const BEFORE_LEVEL: usize = 471_147;
 /// What our archive gives where there is no placement, or no chroma is found.
 const NONE: u32 = 255;
 /// The floor of each pair.
 const FLOOR: f32 = 35.0;
+/// The gap of each search.
+const GAP: f32 = 40.0;
 /// How many levels the two of a pair lie apart at least: 41 units of lightness.
 const APART: usize = 82;
 
@@ -62,6 +68,18 @@ unsafe extern "C" {
         work: *mut u16,
         room: usize,
         hues: *mut [u16; 16],
+        chroma: *mut [f32; 1],
+    ) -> u32;
+    /// The same over a whole table, with two level indices to write too.
+    fn tengcuvo_search(
+        k: usize,
+        gap: f32,
+        table: *const f32,
+        entries: usize,
+        work: *mut u16,
+        room: usize,
+        hues: *mut [u16; 16],
+        levels: *mut [usize; 2],
         chroma: *mut [f32; 1],
     ) -> u32;
 }
@@ -130,23 +148,33 @@ fn summary(name: &str, times: &[f64]) -> f64 {
     least
 }
 
-/// Has two sides work in turns, and writes the times of both and their ratio.
-fn compare(what: &str, sides: [&mut dyn FnMut(); 2]) {
+/// Has two sides work so many times in turns, and gives the times of both in milliseconds.
+fn in_turns(turns: usize, sides: [&mut dyn FnMut(); 2]) -> [Vec<f64>; 2] {
     let mut times = [vec![], vec![]];
-    for turn in 0..2 * TURNS {
+    for turn in 0..2 * turns {
         // Two turns are a pair; whoever went second in one goes first in the next.
         let side = (turn + 1) / 2 % 2;
         let start = Instant::now();
         sides[side]();
         times[side].push(start.elapsed().as_secs_f64() * 1e3);
     }
-    println!("{what}, {TURNS} times each");
+    times
+}
+
+/// Writes the times of both sides and their ratio.
+fn report(what: &str, times: &[Vec<f64>; 2]) {
+    println!("{what}, {} times each", times[0].len());
     let least = summary("ours    ", &times[0]) / summary("the Rust", &times[1]);
     let pairs = times[0].iter().zip(&times[1]);
     let [_, middle, _] = spread(pairs.map(|(ours, theirs)| ours / theirs).collect());
     println!(
         "ours / the Rust: {least:.3} of the least times, {middle:.3} in the middle of all pairs"
     );
+}
+
+/// Has two sides work in turns, and writes the times of both and their ratio.
+fn compare(what: &str, sides: [&mut dyn FnMut(); 2]) {
+    report(what, &in_turns(TURNS, sides));
 }
 
 /// Fills both tables, compares them, and gives one.
@@ -417,13 +445,116 @@ fn bests(table: &[f32]) {
     println!("all pairs are equal bit for bit, {found} of them with a chroma");
 }
 
-/// Tries the refusals, then times the three parts.
+/// What a search gives: the number, the hues, the level indices, and the bits of the chroma.
+type Searched = (u32, [u16; 16], [usize; 2], u32);
+
+/// Searches a table by our archive.
+fn search(table: &[f32], k: usize, gap: f32, work: &mut [u16]) -> Searched {
+    let mut hues = [BEFORE; 16];
+    let mut levels = [BEFORE_LEVEL; 2];
+    let mut chroma = [BEFORE_CHROMA];
+    let (address, room) = (work.as_mut_ptr(), work.len());
+    // What is lent lives through the call, and nothing that is written is lent twice.
+    let number = unsafe {
+        tengcuvo_search(
+            k,
+            gap,
+            table.as_ptr(),
+            table.len(),
+            address,
+            room,
+            &mut hues,
+            &mut levels,
+            &mut chroma,
+        )
+    };
+    (number, hues, levels, chroma[0].to_bits())
+}
+
+/// Checks that our archive refuses what it must, with all that it is lent then as before.
+fn search_refusals() {
+    let (table, bad) = ([40.0; 3 * DIRECTIONS], [f32::NAN; 3 * DIRECTIONS]);
+    let room = 3 * DIRECTIONS;
+    for (number, table, k, gap, room) in [
+        (1, &table[..], 17, GAP, room),
+        (2, &table, 2, f32::NAN, room),
+        (2, &table, 2, -0.0, room),
+        (6, &table[1..], 2, GAP, room),
+        (6, &[], 2, GAP, room),
+        (7, &bad, 2, GAP, room),
+        (8, &table, 2, GAP, room - 1),
+    ] {
+        let mut work = vec![BEFORE; room];
+        let given = search(table, k, gap, &mut work);
+        let bits = BEFORE_CHROMA.to_bits();
+        let expected = (number, [BEFORE; 16], [BEFORE_LEVEL; 2], bits);
+        assert!(given == expected, "not refused by {number}");
+        assert!(
+            work.iter().all(|v| *v == BEFORE),
+            "a refused buffer is changed"
+        );
+    }
+}
+
+/// What our archive must give where the published search gives this.
+fn expected_search(theirs: Option<pairing::Solution>) -> Searched {
+    let mut hues = [0; 16];
+    let Some(solution) = theirs else {
+        let bits = BEFORE_CHROMA.to_bits();
+        return (NONE, hues, [BEFORE_LEVEL; 2], bits);
+    };
+    let (chroma, levels, given) = pairing::told(solution);
+    for (hue, to) in given.iter().zip(&mut hues) {
+        *to = (hue * 2.0) as u16;
+    }
+    let levels = levels.map(|level| ((level - chroma::l_of(0)) * 2.0) as usize);
+    (0, hues, levels, chroma.to_bits())
+}
+
+/// Searches the whole table for one hue count by both sides, compares what they give, and gives
+/// the times of both.
+fn searched(table: &[f32], gamut: &pairing::Gamut, k: usize) -> [Vec<f64>; 2] {
+    let mut work = vec![0; 3 * DIRECTIONS];
+    let (mut one, mut other) = (None, None);
+    let times = in_turns(
+        SEARCH_TURNS,
+        [
+            &mut || one = Some(search(table, k, GAP, &mut work)),
+            &mut || other = pairing::search(gamut, k, GAP),
+        ],
+    );
+    let found = other.is_some();
+    assert!(one == Some(expected_search(other)), "a search differs");
+    let kind = if found { "found" } else { "none" };
+    report(&format!("the whole search for k = {k} ({kind})"), &times);
+    times
+}
+
+/// Searches the whole table for 1 to 8 hues by both sides, and writes the ratio over all.
+fn searches(table: &[f32]) {
+    let gamut = pairing::over(LEVELS, DIRECTIONS, table.to_vec());
+    let mut all = [vec![0.0; SEARCH_TURNS], vec![0.0; SEARCH_TURNS]];
+    for k in 1..=8 {
+        let times = searched(table, &gamut, k);
+        for (all, times) in all.iter_mut().zip(&times) {
+            all.iter_mut()
+                .zip(times)
+                .for_each(|(all, time)| *all += time);
+        }
+    }
+    report("the whole search for all of k = 1 to 8", &all);
+    println!("all searches are equal bit for bit");
+}
+
+/// Tries the refusals, then times the four parts.
 fn main() {
     let (cos, sin) = standins::directions();
     refusals(&cos, &sin);
     placement_refusals();
     pair_refusals();
+    search_refusals();
     let table = tables(&cos, &sin);
     placements(&table);
     bests(&table);
+    searches(&table);
 }

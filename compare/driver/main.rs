@@ -9,11 +9,11 @@ mod chroma; // max_chroma and l_of, taken from the published file by compare/bui
 mod color; // the published file, patched by compare/build
 mod gamut;
 mod gamut_lists;
+mod job;
 mod lists;
 mod pair;
 mod pair_lists;
-#[allow(dead_code)]
-mod pairing; // best_for_levels and its table, taken from the published file by compare/build
+mod pairing; // best_for_levels, search and their table, taken from the published file by compare/build
 mod palette; // the white point, taken from the published file by compare/build
 mod placement;
 mod placement_lists;
@@ -21,6 +21,8 @@ mod placing; // feasible, place_from and the step, taken from the published file
 #[allow(dead_code)]
 mod published; // the published file as it is, for `check`
 mod random;
+mod search;
+mod search_lists;
 mod standins;
 
 use std::io::{self, BufWriter, Write};
@@ -54,6 +56,11 @@ fn main() -> ExitCode {
             (Ok(seed), Ok(count)) => pair_lists::many(&mut out, seed, count),
             _ => return usage(),
         },
+        ["search-list"] => search_lists::fixed(&mut out),
+        ["search-many", seed, count] => match (seed.parse(), count.parse()) {
+            (Ok(seed), Ok(count)) => search_lists::many(&mut out, seed, count),
+            _ => return usage(),
+        },
         ["tables"] => tables(&mut out),
         ["check"] => check::all(&mut out),
         _ => return usage(),
@@ -73,6 +80,7 @@ fn usage() -> ExitCode {
     eprintln!("       driver gamut-list | gamut-all | gamut-many SEED COUNT");
     eprintln!("       driver placement-list | placement-all | placement-many SEED COUNT");
     eprintln!("       driver pair-list | pair-many SEED COUNT");
+    eprintln!("       driver search-list | search-many SEED COUNT");
     ExitCode::from(2)
 }
 

@@ -34,7 +34,7 @@ pub struct Call {
 }
 
 /// Whether a chroma or an entry is taken.
-fn takes(v: f32) -> bool {
+pub fn takes(v: f32) -> bool {
     !v.is_nan() && v.is_sign_positive() && v <= 200.0
 }
 

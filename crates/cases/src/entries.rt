@@ -25,6 +25,17 @@ pub fn put(row: &mut [f32], at: usize, words: [u32; 24], from: usize, count: usi
     }
 }
 
+// Puts one entry at so many places.
+pub fn put_same(row: &mut [f32], at: usize, count: usize, entry: f32) {
+    let mut to = at;
+    let mut i = 0;
+    while i < count {
+        put_one(row, to, entry);
+        to = std::num::wrapping_add_usize(to, 1);
+        i += 1;
+    }
+}
+
 // Whether so many entries, from a place on, lie among the first ones up to a length.
 pub fn fit(at: usize, entries: usize, length: usize) -> bool {
     if at <= length {

@@ -1,7 +1,7 @@
 // Sixteen hues, held to the last words of a line.
 
 // The hue that the words from one of them on say for a place, 0 after the last.
-fn said(words: [u32; 24], from: usize, count: usize, place: usize) -> u32 {
+pub fn said(words: [u32; 24], from: usize, count: usize, place: usize) -> u32 {
     let at = std::num::wrapping_add_usize(from, place);
     if at < count {
         if at < 24 {

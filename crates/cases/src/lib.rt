@@ -292,6 +292,14 @@ pub fn same_float(r: f32, bits: u32) -> bool
     f32::to_bits(r) == bits
 }
 
+// The pattern of a float, which is the same for every NaN.
+pub fn pattern_of(x: f32) -> u32 {
+    if x != x {
+        return 0x7fc0_0000;
+    }
+    f32::to_bits(x)
+}
+
 // Puts a byte at a place of a text, and gives the next place. What does not fit is left out.
 pub fn put_byte(text: &mut [u8; 64], at: usize, byte: u8) -> usize
     ensures { λ r. ⌜ r ≤ 64 ⌝ }

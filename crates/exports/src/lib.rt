@@ -2,14 +2,18 @@
 // first element, then its length; what is written must overlap nothing else that is handed over.
 use gamut::Filling;
 use placement::Answer;
+use search::Best;
+use search::Job;
+use search::Settings;
 ghost use mathlib.Core.Path.{_≡_};
 ghost use Prim.Native.Nat.{ℕ};
 ghost use lib.ListN.{length};
 ghost use Rattle.limits.specs.Answers.{refused};
 ghost use Rattle.placement.specs.Placing.{placementSays};
 ghost use Rattle.pair.specs.Pair.{pairSays};
+ghost use Rattle.search.specs.Job.{searchSays};
 ghost use Rattle.gamut.specs.Gamut.{fillSaid, fillSays, rowAfter};
-ghost use Rattle.exports.specs.Numbers.{numberOf, placeNumber, huesAfter, bestNumber, bestHues, bestChroma};
+ghost use Rattle.exports.specs.Numbers.{numberOf, placeNumber, huesAfter, bestNumber, bestHues, bestChroma, settingsOf, handed, searchHands};
 
 // What is given where there is no placement.
 const NO_PLACEMENT: u32 = 255;
@@ -97,5 +101,54 @@ pub extern "C" fn tengcuvo_best(
             NO_CHROMA
         }
         pair::Answer::Refused(why) => why.number() as u32,
+    }
+}
+
+// The job that a whole search is lent, of which nothing is handed out.
+fn blank(settings: Settings) -> Job {
+    Job {
+        settings,
+        levels: 0,
+        position: 0,
+        best: Best::None,
+        hues: [0u16; 16],
+    }
+}
+
+// The whole search of a table for k hues, on levels at least gap + 1 apart: gives 0 with the chroma, sixteen hues and the dark
+// and the light level index, 255 with zeros for hues and the others as before where there is none, or the number of a refusal,
+// with all that is lent as before.
+#[no_mangle]
+pub extern "C" fn tengcuvo_search(
+    k: usize,
+    gap: f32,
+    table: &[f32],
+    work: &mut [u16],
+    hues: &mut [u16; 16],
+    levels: &mut [usize; 2],
+    chroma: &mut [f32; 1],
+) -> u32
+    ensures { λ r. ⌜ handed r (now (hues .exit)) (now (levels .exit)) (now (chroma .exit)) ≡ searchHands (searchSays (settingsOf k gap) (now (table .entry)) (length (now (work .entry)))) (now (hues .entry)) (now (levels .entry)) (now (chroma .entry)) ⌝ }
+    ensures { λ r. ⌜ ((w : ℕ) → searchSays (settingsOf k gap) (now (table .entry)) (length (now (work .entry))) ≡ refused w → now (work .exit) ≡ now (work .entry)) ⌝ }
+{
+    let settings = Settings { k, gap };
+    let outcome = search::search(settings, table, work, blank(settings));
+    let answer = outcome.answer;
+    let job = outcome.job;
+    let best = job.best;
+    let given = job.hues;
+    match answer {
+        search::Answer::Refused(why) => why.number() as u32,
+        search::Answer::Accepted => {
+            *hues = given;
+            match best {
+                Best::None => NO_CHROMA,
+                Best::Found(reached, dark, light) => {
+                    *levels = [dark, light];
+                    *chroma = [reached];
+                    0
+                }
+            }
+        }
     }
 }

@@ -1,20 +1,12 @@
 // The digest of a row: FNV-1a with 64 bits over the bytes of its patterns, the lowest byte of each first.
 use cases::digest;
 
-// The pattern of a float, which is the same for every NaN.
-fn pattern_of(x: f32) -> u32 {
-    if x != x {
-        return 0x7fc0_0000;
-    }
-    f32::to_bits(x)
-}
-
 // The digest of a row.
 pub fn of(row: &[f32]) -> u64 {
     let mut sum = digest::START;
     let mut i = 0;
     while i < row.len() {
-        sum = digest::with_pattern(sum, pattern_of(row[i]));
+        sum = digest::with_pattern(sum, cases::pattern_of(row[i]));
         i += 1;
     }
     sum

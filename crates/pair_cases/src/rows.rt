@@ -2,17 +2,6 @@
 use crate::operations;
 use cases::entries;
 
-// Puts one entry at so many places.
-fn put_same(rows: &mut [f32], at: usize, count: usize, entry: f32) {
-    let mut to = at;
-    let mut i = 0;
-    while i < count {
-        entries::put_one(rows, to, entry);
-        to = std::num::wrapping_add_usize(to, 1);
-        i += 1;
-    }
-}
-
 // The place of an entry of a row.
 fn place_of(which: usize, at: usize) -> usize {
     if which == 0 {
@@ -54,7 +43,7 @@ fn set_same(words: [u32; 24], rows: &mut [f32], lengths: &[usize; 2]) -> bool {
     let count = cases::size_of(words[2]);
     if which < 2 {
         if entries::fit(at, count, lengths[which]) {
-            put_same(rows, place_of(which, at), count, cases::float_of(words[3]));
+            entries::put_same(rows, place_of(which, at), count, cases::float_of(words[3]));
             return true;
         }
     }

@@ -1,20 +1,13 @@
 -- `cases::same_float` meets its contract: past the first test the result is no NaN, so its pattern is defined. Assumes nothing.
-use mathlib.Core.Path.{_≡_, refl, sym, ap, subst, _∙_}
-use mathlib.Core.Bool.{Bool, true, false, cond}
+use mathlib.Core.Path.{sym, subst}
 use lib.Dec.{T}
-use lib.Ieee.{Float, nan, inf, fin, binary32, ne, isNan, toBits}
-use lib.Ieee.Compare.{differs-from-itself, nan-differs}
+use lib.Ieee.{isNan}
+use lib.Ieee.Compare.{differs-from-itself}
 use borrow.Author.Needs.{needs}
 use Rattle.cases.specs.Same.{sameFloat}
+use Rattle.cases.proofs.Nans.{no-nan}
 use Rattle.cases.proofs.same_float.Statement.{statement}
 use Rattle.cases.proofs.same_float.Tie as tie
-
--- ---- what equals itself is no NaN
-no-nan : (x : Float) → ne x x ≡ false → isNan x ≡ false
-unfolding isNan
-no-nan nan e = cc nan-differs
-no-nan (inf s) e = refl
-no-nan (fin s m k) e = refl
 
 is-nan-pattern-requires : tie.Need-is-nan-pattern-requires
 is-nan-pattern-requires c κs = search needs

@@ -1,17 +1,17 @@
--- `pair_cases::rows::put_same` is safe and ends: it counts the places. Assumes nothing.
+-- `cases::entries::put_same` is safe and ends: it counts the places. Assumes nothing.
 use Prim.Native.Nat.{_-_}
 use native.Mathlib.Omega.{arith}
 use lib.ListN.{length}
 use mathlib.Core.Path.{_≡_, refl}
 use borrow.Author.Needs.{needs}
-use Rattle.pair_cases.proofs.rows.put_same.Statement.{statement}
-use Rattle.pair_cases.proofs.rows.put_same.Tie as tie
+use Rattle.cases.proofs.entries.put_same.Statement.{statement}
+use Rattle.cases.proofs.entries.put_same.Tie as tie
 
 abbrev Inv-loop : tie.InvT-loop
-Inv-loop rows₀ at count entry to₀ i₀ rows to i = length rows ≡ length rows₀
+Inv-loop row₀ at count entry to₀ i₀ row to i = length row ≡ length row₀
 
 abbrev μ-loop : tie.MeasureT-loop
-μ-loop rows₀ at count entry to₀ i₀ rows to i = count - i
+μ-loop row₀ at count entry to₀ i₀ row to i = count - i
 
 loop-holds : tie.Need-loop-holds Inv-loop μ-loop
 loop-holds c = refl

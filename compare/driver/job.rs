@@ -1,0 +1,202 @@
+//! The job by document 01's rule, and the whole search of the published file.
+
+use crate::cases::word;
+use crate::chroma::l_of;
+use crate::pairing;
+use crate::placement::takes;
+use crate::placing;
+use crate::standins::{DIRECTIONS, LEVELS};
+
+/// Refusals: the hue count, the gap, the table's length, an entry, the work buffer, a finished
+/// job, a broken record.
+const BAD_HUE_COUNT: u32 = 1;
+const BAD_GAP: u32 = 2;
+const BAD_TABLE: u32 = 6;
+const BAD_ENTRY: u32 = 7;
+const BAD_WORK: u32 = 8;
+const FINISHED: u32 = 14;
+const BROKEN: u32 = 15;
+/// The least chroma that a palette may have.
+pub const FLOOR: f32 = 35.0;
+/// How long a work buffer must be.
+pub const ROOM: usize = 3 * DIRECTIONS;
+
+/// A job record; the best is a chroma with the dark and the light level index.
+#[derive(Clone, Copy)]
+pub struct Job {
+    pub k: u32,
+    pub gap: f32,
+    pub levels: u32,
+    pub position: u32,
+    pub best: Option<(f32, u32, u32)>,
+    pub hues: [u16; 16],
+}
+
+/// Whether a gap is taken.
+fn takes_gap(v: f32) -> bool {
+    !v.is_nan() && v.is_sign_positive() && v <= 84.0
+}
+
+/// Sixteen hues, zeros after the given ones.
+fn sixteen(given: impl Iterator<Item = usize>) -> [u16; 16] {
+    let mut hues = [0; 16];
+    given.zip(&mut hues).for_each(|(hue, to)| *to = hue as u16);
+    hues
+}
+
+impl Job {
+    /// The words of a record: hue count, gap, levels, position, whether there is a best, its
+    /// chroma and its two level indices, and the hues.
+    pub fn words(&self) -> [u32; 24] {
+        let mut words = [0; 24];
+        words[..4].copy_from_slice(&[self.k, word(self.gap), self.levels, self.position]);
+        if let Some((chroma, dark, light)) = self.best {
+            words[4..8].copy_from_slice(&[1, word(chroma), dark, light]);
+        }
+        for (hue, to) in self.hues.iter().zip(&mut words[8..]) {
+            *to = u32::from(*hue);
+        }
+        words
+    }
+
+    /// The bytes of a record in a digest: hue count, gap, levels and position, whether there is
+    /// a best and if so its chroma and its two level indices, and the hues.
+    pub fn bytes(&self) -> Vec<u8> {
+        let words = self.words();
+        let of = |words: &[u32]| words.iter().flat_map(|word| word.to_le_bytes()).collect();
+        let mut bytes: Vec<u8> = of(&words[..4]);
+        bytes.push(u8::from(self.best.is_some()));
+        if self.best.is_some() {
+            bytes.extend::<Vec<u8>>(of(&words[5..8]));
+        }
+        bytes.extend(self.hues.iter().flat_map(|hue| hue.to_le_bytes()));
+        bytes
+    }
+
+    /// How many pairs there are to go through.
+    pub fn pairs(&self) -> u64 {
+        u64::from(self.levels) * u64::from(self.levels)
+    }
+
+    /// Whether every field is in its range.
+    fn is_whole(&self) -> bool {
+        let shown = self.best.map_or(0, |_| self.k as usize);
+        let held = |(i, hue): (usize, &u16)| *hue <= if i < shown { 719 } else { 0 };
+        let below = |level: u32| level < self.levels;
+        (1..=16).contains(&self.k)
+            && takes_gap(self.gap)
+            && (1..=LEVELS as u32).contains(&self.levels)
+            && u64::from(self.position) <= self.pairs()
+            && self.best.is_none_or(|(chroma, dark, light)| {
+                (FLOOR..=200.0).contains(&chroma) && below(dark) && below(light)
+            })
+            && self.hues.iter().enumerate().all(held)
+    }
+
+    /// The dark and the light level index of the next pair.
+    fn next_pair(&self) -> [u32; 2] {
+        [self.position / self.levels, self.position % self.levels]
+    }
+
+    /// Whether the next pair is far enough apart.
+    pub fn qualifies(&self) -> bool {
+        let [dark, light] = self.next_pair().map(|level| l_of(level as usize));
+        light - dark >= self.gap + 1.0
+    }
+
+    /// The rows of the next pair.
+    fn rows<'a>(&self, table: &'a [f32]) -> [&'a [f32]; 2] {
+        self.next_pair()
+            .map(|level| &table[level as usize * DIRECTIONS..][..DIRECTIONS])
+    }
+
+    /// What the published pair gives for the next pair, from 35 or the best so far.
+    pub fn found(&self, table: &[f32]) -> Option<(f32, Vec<usize>)> {
+        let gamut = pairing::over(2, DIRECTIONS, self.rows(table).concat());
+        let floor = self.best.map_or(FLOOR, |(chroma, ..)| chroma);
+        let k = self.k as usize;
+        pairing::best_for_levels(&gamut, 0, 1, k, placing::step(k), floor)
+    }
+}
+
+/// A start: the job after it, or the number of its refusal.
+pub fn start(k: u32, gap: f32, table: &[f32]) -> Result<Job, u32> {
+    let levels = table.len() / DIRECTIONS;
+    let asked = [
+        (BAD_HUE_COUNT, (1..=16).contains(&k)),
+        (BAD_GAP, takes_gap(gap)),
+        (
+            BAD_TABLE,
+            table.len() == levels * DIRECTIONS && (1..=LEVELS).contains(&levels),
+        ),
+        (BAD_ENTRY, table.iter().copied().all(takes)),
+    ];
+    if let Some((number, _)) = asked.iter().find(|(_, fine)| !fine) {
+        return Err(*number);
+    }
+    Ok(Job {
+        k,
+        gap,
+        levels: levels as u32,
+        position: 0,
+        best: None,
+        hues: [0; 16],
+    })
+}
+
+/// The number of the first refusal of a step before it reads a row, in the order of document 01.
+fn step_refusal(table: &[f32], room: usize, job: &Job) -> Option<u32> {
+    let asked = [
+        (BROKEN, job.is_whole()),
+        (FINISHED, u64::from(job.position) != job.pairs()),
+        (BAD_TABLE, table.len() == job.levels as usize * DIRECTIONS),
+        (BAD_WORK, ROOM <= room),
+    ];
+    asked
+        .iter()
+        .find(|(_, fine)| !fine)
+        .map(|(number, _)| *number)
+}
+
+/// A step: the job after it, or the number of its refusal.
+pub fn step(table: &[f32], room: usize, job: Job) -> Result<Job, u32> {
+    if let Some(number) = step_refusal(table, room, &job) {
+        return Err(number);
+    }
+    let mut next = Job {
+        position: job.position + 1,
+        ..job
+    };
+    if !job.qualifies() {
+        return Ok(next);
+    }
+    if !job.rows(table).concat().into_iter().all(takes) {
+        return Err(BAD_ENTRY);
+    }
+    if let Some((chroma, hues)) = job.found(table)
+        && job.best.is_none_or(|(best, ..)| chroma > best)
+    {
+        let [dark, light] = job.next_pair();
+        next.best = Some((chroma, dark, light));
+        next.hues = sixteen(hues.into_iter());
+    }
+    Ok(next)
+}
+
+/// A whole search by the published file: the job after it, or the number of its refusal.
+pub fn search(k: u32, gap: f32, table: &[f32], room: usize) -> Result<Job, u32> {
+    let mut job = start(k, gap, table)?;
+    if room < ROOM {
+        return Err(BAD_WORK);
+    }
+    let gamut = pairing::over(job.levels as usize, DIRECTIONS, table.to_vec());
+    job.position = job.pairs() as u32;
+    if let Some(solution) = pairing::search(&gamut, k as usize, gap) {
+        let (chroma, levels, hues) = pairing::told(solution);
+        // Levels and hues lie half a unit and half a degree apart, which is exact.
+        let [dark, light] = levels.map(|level| ((level - l_of(0)) * 2.0) as u32);
+        job.best = Some((chroma, dark, light));
+        job.hues = sixteen(hues.into_iter().map(|hue| (hue * 2.0) as usize));
+    }
+    Ok(job)
+}

@@ -1,0 +1,282 @@
+//! The lines of a list of search cases: a table, a job, and calls over both.
+
+use crate::cases::{head, line, word};
+use crate::chroma::{l_of, max_chroma};
+use crate::gamut::digest;
+use crate::job::{self, Job, ROOM};
+use crate::standins::{directions, DIRECTIONS, LEVELS};
+use std::io::{self, Write};
+
+/// How many entries a table can have that is lent, the ones refused among them.
+pub const STORED: usize = (LEVELS + 1) * DIRECTIONS;
+/// How many entries one line can set.
+const ENTRIES_A_LINE: usize = 23;
+/// How many levels a table has at most whose search is held to its steps.
+const FEW_LEVELS: u32 = 12;
+
+/// Whether two slices have the same bits.
+fn equal(a: &[f32], b: &[f32]) -> bool {
+    let bits = |row: &[f32]| row.iter().map(|v| v.to_bits()).collect::<Vec<_>>();
+    bits(a) == bits(b)
+}
+
+/// The rows of every level in these directions.
+fn panel(cos: &[f32], sin: &[f32]) -> Vec<f32> {
+    let entry = |level: usize, j: usize| max_chroma(l_of(level), cos[j], sin[j]);
+    let row = |level: usize| (0..DIRECTIONS).map(move |j| entry(level, j));
+    (0..LEVELS).flat_map(row).collect()
+}
+
+/// A list of search cases being written.
+pub struct Searches<'a> {
+    out: &'a mut dyn Write,
+    panel: Vec<f32>,
+    entries: Vec<f32>,
+    length: usize,
+    job: Job,
+    accepted: u64,
+    refused: u64,
+    found: u64,
+    nothing: u64,
+    again: u64,
+}
+
+impl Searches<'_> {
+    /// Begins a list made by this command: its head and the directions.
+    pub fn begin<'a>(out: &'a mut dyn Write, command: &str) -> io::Result<Searches<'a>> {
+        let with = "the stand-ins and the refusals";
+        head(out, "Search", "xtask/src/palette.rs", with, command)?;
+        let (cos, sin) = directions();
+        for (j, (cos, sin)) in cos.iter().zip(&sin).enumerate() {
+            line(out, "dir", &[j as u32, word(*cos), word(*sin)])?;
+        }
+        Ok(Searches {
+            out,
+            panel: panel(&cos, &sin),
+            entries: vec![0.0; STORED],
+            length: 0,
+            job: Job {
+                k: 0,
+                gap: 0.0,
+                levels: 0,
+                position: 0,
+                best: None,
+                hues: [0; 16],
+            },
+            accepted: 0,
+            refused: 0,
+            found: 0,
+            nothing: 0,
+            again: 0,
+        })
+    }
+
+    /// The table.
+    pub fn table(&self) -> &[f32] {
+        &self.entries[..self.length]
+    }
+
+    /// The job that the next call is lent.
+    pub fn job(&self) -> Job {
+        self.job
+    }
+
+    /// Sets the length of the table; entries stay where they stand.
+    pub fn resize(&mut self, length: usize) -> io::Result<()> {
+        self.length = length;
+        line(self.out, "table", &[length as u32])
+    }
+
+    /// Sets entries from a place on.
+    pub fn more(&mut self, at: usize, entries: &[f32]) -> io::Result<()> {
+        self.entries[at..at + entries.len()].copy_from_slice(entries);
+        let mut words = vec![at as u32];
+        words.extend(entries.iter().copied().map(word));
+        line(self.out, "more", &words)
+    }
+
+    /// Sets so many entries, from a place on, to one value.
+    pub fn same(&mut self, at: usize, count: usize, v: f32) -> io::Result<()> {
+        self.entries[at..at + count].fill(v);
+        line(self.out, "same", &[at as u32, count as u32, word(v)])
+    }
+
+    /// Sets so many entries, from a place on, to those from another place on.
+    fn copy(&mut self, at: usize, from: usize, count: usize) -> io::Result<()> {
+        self.entries.copy_within(from..from + count, at);
+        line(self.out, "copy", &[at as u32, from as u32, count as u32])
+    }
+
+    /// Sets the table to the rows of the panel for so many levels from one of them on.
+    pub fn panel(&mut self, first: usize, count: usize) -> io::Result<()> {
+        self.resize(count * DIRECTIONS)?;
+        let rows = &self.panel[first * DIRECTIONS..][..count * DIRECTIONS];
+        self.entries[..rows.len()].copy_from_slice(rows);
+        line(self.out, "panel", &[first as u32, count as u32])
+    }
+
+    /// Sets entries from a place on, those of a long run of one value in one line.
+    fn runs(&mut self, from: usize, row: &[f32]) -> io::Result<()> {
+        let run = |at: usize| {
+            let alike = |v: &&f32| v.to_bits() == row[at].to_bits();
+            row[at..].iter().take_while(alike).count()
+        };
+        let mut at = 0;
+        while at < row.len() {
+            let count = run(at);
+            if count > 1 {
+                self.same(from + at, count, row[at])?;
+                at += count;
+                continue;
+            }
+            let most = row.len().min(at + ENTRIES_A_LINE);
+            let end = (at..most).find(|i| run(*i) > 1).unwrap_or(most);
+            self.more(from + at, &row[at..end])?;
+            at = end;
+        }
+        Ok(())
+    }
+
+    /// Sets the table and all of its entries; a row that stands already needs no line, and one
+    /// that stands before it in the table needs one.
+    pub fn set(&mut self, table: &[f32]) -> io::Result<()> {
+        self.resize(table.len())?;
+        for (i, row) in table.chunks(DIRECTIONS).enumerate() {
+            let at = i * DIRECTIONS;
+            if equal(row, &self.entries[at..at + row.len()]) {
+                continue;
+            }
+            let before = table[..at].chunks(DIRECTIONS);
+            match before.enumerate().find(|(_, other)| equal(row, other)) {
+                Some((other, _)) => self.copy(at, other * DIRECTIONS, row.len())?,
+                None => self.runs(at, row)?,
+            }
+        }
+        Ok(())
+    }
+
+    /// Sets the job that the next call is lent.
+    pub fn lend(&mut self, job: Job) -> io::Result<()> {
+        self.job = job;
+        let words = job.words();
+        let hues = words[8..].iter().rposition(|hue| *hue != 0);
+        let shown = [&words[..4], &words[8..8 + hues.map_or(0, |last| last + 1)]].concat();
+        line(self.out, "job", &shown)?;
+        if job.best.is_some() {
+            line(self.out, "best", &words[5..8])?;
+        }
+        Ok(())
+    }
+
+    /// Takes the answer to a call, and gives the words for it: its number, then the field of
+    /// the job after it at this place of its words, and the best with its k hues where there is one.
+    fn answered(&mut self, answer: Result<Job, u32>, field: usize) -> Vec<u32> {
+        let job = match answer {
+            Ok(job) => job,
+            Err(number) => {
+                self.refused += 1;
+                return vec![number];
+            }
+        };
+        self.accepted += 1;
+        self.job = job;
+        let words = job.words();
+        let mut said = vec![0, words[field]];
+        if job.best.is_some() {
+            said.extend(&words[5..8 + job.k as usize]);
+        }
+        said
+    }
+
+    /// Writes a start.
+    pub fn start(&mut self, k: u32, gap: f32) -> io::Result<()> {
+        let answer = job::start(k, gap, self.table());
+        let mut words = vec![k, word(gap)];
+        words.extend(self.answered(answer, 2));
+        line(self.out, "start", &words)
+    }
+
+    /// Writes a step in a work buffer of this length.
+    pub fn step_in(&mut self, room: usize) -> io::Result<()> {
+        let answer = job::step(self.table(), room, self.job);
+        let mut words = vec![room as u32];
+        words.extend(self.answered(answer, 3));
+        line(self.out, "step", &words)
+    }
+
+    /// Writes a step in a work buffer just long enough.
+    pub fn step(&mut self) -> io::Result<()> {
+        self.step_in(ROOM)
+    }
+
+    /// Writes so many steps in one line, with the digest of the answers and the jobs after them.
+    pub fn steps(&mut self, count: usize) -> io::Result<()> {
+        let mut bytes = vec![];
+        for _ in 0..count {
+            let answer = job::step(self.table(), ROOM, self.job);
+            bytes.push(self.answered(answer, 3)[0] as u8);
+            bytes.extend(self.job.bytes());
+        }
+        let sum = digest(bytes.into_iter());
+        let words = [count as u32, ROOM as u32, (sum >> 32) as u32, sum as u32];
+        line(self.out, "steps", &words)
+    }
+
+    /// Writes a start and all of its steps, with one more that is refused.
+    pub fn run(&mut self, k: u32, gap: f32) -> io::Result<()> {
+        self.start(k, gap)?;
+        self.steps(self.job.pairs() as usize + 1)
+    }
+
+    /// Whether a later pair reaches the best chroma again; the steps must end in this job.
+    fn reached_again(&self, ended: Job) -> bool {
+        let mut again = false;
+        let mut job = job::start(ended.k, ended.gap, self.table()).expect("a start");
+        while u64::from(job.position) < job.pairs() {
+            let next = job::step(self.table(), ROOM, job).expect("a step");
+            let chroma = |job: &Job| job.best.map(|(chroma, ..)| chroma);
+            if chroma(&next) != chroma(&job) {
+                again = false;
+            } else if job.best.is_some() && job.qualifies() {
+                again |= job.found(self.table()).is_some();
+            }
+            job = next;
+        }
+        assert!(job.words() == ended.words(), "the steps end otherwise");
+        again
+    }
+
+    /// Writes a whole search in a work buffer of this length.
+    pub fn search_in(&mut self, k: u32, gap: f32, room: usize) -> io::Result<()> {
+        let answer = job::search(k, gap, self.table(), room);
+        if let Ok(job) = answer {
+            self.found += u64::from(job.best.is_some());
+            self.nothing += u64::from(job.best.is_none());
+            if job.levels <= FEW_LEVELS {
+                self.again += u64::from(self.reached_again(job));
+            }
+        }
+        let mut words = vec![k, word(gap), room as u32];
+        words.extend(self.answered(answer, 3));
+        line(self.out, "search", &words)
+    }
+
+    /// Writes a whole search in a work buffer just long enough.
+    pub fn search(&mut self, k: u32, gap: f32) -> io::Result<()> {
+        self.search_in(k, gap, ROOM)
+    }
+
+    /// Ends the list with how many answers of each kind it holds.
+    pub fn end(self) -> io::Result<()> {
+        writeln!(
+            self.out,
+            "# Answers: {} accepted, {} refused.",
+            self.accepted, self.refused
+        )?;
+        writeln!(
+            self.out,
+            "# Whole searches: {} found, {} none; in {} of those over at most {FEW_LEVELS} levels a later pair reaches the best chroma again.",
+            self.found, self.nothing, self.again
+        )
+    }
+}

@@ -1,0 +1,197 @@
+// Job records: by the words of a line, held to one another, and in a digest.
+use crate::operations;
+use cases::digest;
+use cases::hues;
+use search::Best;
+use search::Job;
+use search::Settings;
+
+// Whether two bests are the same, their chromas by the bits.
+fn same_best(one: Best, other: Best) -> bool {
+    match one {
+        Best::None => match other {
+            Best::None => true,
+            Best::Found(_, _, _) => false,
+        },
+        Best::Found(chroma, dark, light) => match other {
+            Best::None => false,
+            Best::Found(c, d, l) => {
+                cases::same_float(c, cases::pattern_of(chroma)) && d == dark && l == light
+            }
+        },
+    }
+}
+
+// Whether the hues of two jobs are the same.
+fn same_hues(one: [u16; 16], other: [u16; 16]) -> bool {
+    let mut i = 0;
+    while i < 16 {
+        if one[i] != other[i] {
+            return false;
+        }
+        i += 1;
+    }
+    true
+}
+
+// Whether two jobs are the same, where every NaN is.
+pub fn same(one: Job, other: Job) -> bool {
+    let settings = one.settings;
+    let expected = other.settings;
+    let best = one.best;
+    let other_best = other.best;
+    let hues = one.hues;
+    let other_hues = other.hues;
+    settings.k == expected.k
+        && cases::same_float(settings.gap, cases::pattern_of(expected.gap))
+        && one.levels == other.levels
+        && one.position == other.position
+        && same_best(best, other_best)
+        && same_hues(hues, other_hues)
+}
+
+// A digest with a number, which counts as the greatest word where it is greater.
+fn with_number(sum: u64, n: usize) -> u64 {
+    if n < 0xffff_ffff {
+        return digest::with_pattern(sum, n as u32);
+    }
+    digest::with_pattern(sum, 0xffff_ffff)
+}
+
+// A digest with a best: a byte that says whether there is one, and if so its chroma and its level indices.
+fn with_found(sum: u64, best: Best) -> u64 {
+    match best {
+        Best::None => digest::with_byte(sum, 0),
+        Best::Found(chroma, dark, light) => {
+            let first = digest::with_pattern(digest::with_byte(sum, 1), cases::pattern_of(chroma));
+            with_number(with_number(first, dark), light)
+        }
+    }
+}
+
+// A digest with sixteen hues.
+fn with_hues(sum: u64, hues: [u16; 16]) -> u64 {
+    let mut next = sum;
+    let mut i = 0;
+    while i < 16 {
+        next = digest::with_pair(next, hues[i]);
+        i += 1;
+    }
+    next
+}
+
+// A digest with a job: its hue count, gap, levels and position, its best, and its hues.
+pub fn digested(sum: u64, job: Job) -> u64 {
+    let settings = job.settings;
+    let best = job.best;
+    let hues = job.hues;
+    let first = digest::with_pattern(
+        with_number(sum, settings.k),
+        cases::pattern_of(settings.gap),
+    );
+    let second = with_number(with_number(first, job.levels), job.position);
+    with_hues(with_found(second, best), hues)
+}
+
+// A word as a hue.
+fn hue_of(word: u32) -> u16 {
+    (word % 0x1_0000) as u16
+}
+
+// Sixteen hues by the words from one of them on, 0 after the last.
+fn hues_said(words: [u32; 24], from: usize, count: usize) -> [u16; 16] {
+    let mut given = [0u16; 16];
+    let mut i = 0;
+    while i < 16 {
+        given[i] = hue_of(hues::said(words, from, count, i));
+        i += 1;
+    }
+    given
+}
+
+// A best by three words from one of them on, or none where they are missing.
+fn best_said(words: [u32; 24], from: usize, count: usize) -> Best {
+    if from < 22 {
+        if from < count {
+            let chroma = cases::float_of(words[from]);
+            let dark = cases::size_of(words[from + 1]);
+            let light = cases::size_of(words[from + 2]);
+            return Best::Found(chroma, dark, light);
+        }
+    }
+    Best::None
+}
+
+// The settings by two words.
+pub fn settings_said(k: u32, gap: u32) -> Settings {
+    Settings {
+        k: cases::size_of(k),
+        gap: cases::float_of(gap),
+    }
+}
+
+// The job after an accepted call, with the best and the hues that the words from one of them on say, or with none and zeros
+// where there are no more words; after a refused one, which has fewer words, the job that it was lent.
+pub fn after(
+    lent: Job,
+    settings: Settings,
+    levels: usize,
+    position: usize,
+    words: [u32; 24],
+    from: usize,
+    count: usize,
+) -> Job {
+    if count < from {
+        return lent;
+    }
+    let best = best_said(words, from, count);
+    let hues = hues_said(words, std::num::wrapping_add_usize(from, 3), count);
+    Job {
+        settings,
+        levels,
+        position,
+        best,
+        hues,
+    }
+}
+
+// A job by the words of its line, with none so far.
+fn said(words: [u32; 24], count: usize) -> Job {
+    let settings = settings_said(words[0], words[1]);
+    let hues = hues_said(words, 4, count);
+    Job {
+        settings,
+        levels: cases::size_of(words[2]),
+        position: cases::size_of(words[3]),
+        best: Best::None,
+        hues,
+    }
+}
+
+// The same job with the best that words say.
+fn with_best(job: Job, words: [u32; 24]) -> Job {
+    let settings = job.settings;
+    let hues = job.hues;
+    let best = best_said(words, 0, 3);
+    Job {
+        settings,
+        levels: job.levels,
+        position: job.position,
+        best,
+        hues,
+    }
+}
+
+// The job after a line that sets it.
+pub fn set(operation: u64, words: [u32; 24], count: usize, job: Job) -> Job {
+    match operation {
+        operations::JOB => said(words, count),
+        _ => with_best(job, words),
+    }
+}
+
+// The job that the first call is lent where no line sets it.
+pub fn blank() -> Job {
+    let words = [0u32; 24];
+    said(words, 0)
+}

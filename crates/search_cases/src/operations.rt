@@ -1,0 +1,85 @@
+// The operations that a list may have, each by its bytes in base 256, with the words of its line: the inputs, then
+// the outputs.
+
+// dir j cos sin: sets direction j
+pub const DIR: u64 = 0x64_6972;
+
+// table n: the table has n entries, which are as they were
+pub const TABLE: u64 = 0x74_6162_6c65;
+
+// more i e ..: the entries from i on are these
+pub const MORE: u64 = 0x6d6f_7265;
+
+// same i n e: n entries, from i on, are all this one
+pub const SAME: u64 = 0x7361_6d65;
+
+// copy i j n: n entries, from i on, are those from j on
+pub const COPY: u64 = 0x636f_7079;
+
+// panel i n: the first n rows are filled for the levels from i on
+pub const PANEL: u64 = 0x70_616e_656c;
+
+// job k gap levels position h ..: the next call is lent this job, with none so far and these hues
+pub const JOB: u64 = 0x6a_6f62;
+
+// best chroma dark light: the job that the next call is lent has this best
+pub const BEST: u64 = 0x6265_7374;
+
+// start k gap number levels: a start: the number of its refusal, or 0 and the levels of the job after it
+pub const START: u64 = 0x73_7461_7274;
+
+// step room number position chroma dark light h ..: a step with a work buffer of this length: the number of its refusal,
+// or 0 with the position of the job after it, and its best and k hues where it has one
+pub const STEP: u64 = 0x7374_6570;
+
+// steps n room hi lo: n steps, and the digest of their answers with the jobs after them
+pub const STEPS: u64 = 0x73_7465_7073;
+
+// search k gap room number position chroma dark light h ..: a whole search: the same as of a step
+const SEARCH: u64 = 0x7365_6172_6368;
+
+// How many operations there are.
+pub const COUNT: usize = 12;
+
+// The place of the first operation that sets the job, and of the first that is a case.
+pub const FIRST_JOB: usize = 6;
+
+pub const FIRST_CASE: usize = 8;
+
+// The place of a line that a list may not have.
+pub const NOWHERE: usize = 24;
+
+// The operations in the order in which they are reported.
+pub const NAMES: [u64; 12] = [
+    DIR,
+    TABLE,
+    MORE,
+    SAME,
+    COPY,
+    PANEL,
+    JOB,
+    BEST,
+    START,
+    STEP,
+    STEPS,
+    SEARCH,
+];
+
+// How many words each of them has at least.
+const FEWEST: [usize; 12] = [3, 1, 2, 3, 3, 2, 4, 3, 3, 2, 4, 4];
+
+// How many words each of them has at most.
+const MOST: [usize; 12] = [3, 1, 24, 3, 3, 2, 20, 3, 4, 22, 4, 24];
+
+// The place of an operation among all, or none of their places, NOWHERE, where there is no such operation or it may not have
+// so many words.
+pub fn place_of(operation: u64, words: usize) -> usize {
+    let names = NAMES;
+    let place = cases::place_of(&names, operation);
+    if place < COUNT {
+        if FEWEST[place] <= words && words <= MOST[place] {
+            return place;
+        }
+    }
+    NOWHERE
+}
