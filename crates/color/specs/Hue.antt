@@ -8,8 +8,10 @@ use lib.ListN.{getD}
 use Rattle.limits.specs.Answers.{Said, value, refused}
 use Rattle.limits.specs.Refusals.{number}
 use Rattle.limits.specs.Taken.{f32Of, directionsTaken, hueOperandTaken}
+use Rattle.color.specs.declared.Srgb8.{Srgb8}
 use Rattle.color.specs.declared.Hue.{Hue}
 use Rattle.color.specs.declared.Hue.the-variants.{Degrees, Refused}
+use Rattle.color.specs.Color.{srgb8ToLab}
 
 -- x(j)
 unfoldable pub sideAt : List Float → List Float → Float → Float → ℕ → Float
@@ -53,3 +55,7 @@ hueSaid (Refused w) = refused (number w)
 -- refusals 9, then 16
 unfoldable pub hueSays : List Float → List Float → Float → Float → Said Float
 hueSays cs ss a b = cond (directionsTaken cs ss) (cond (hueOperandTaken a && hueOperandTaken b) (value (hueOf cs ss a b)) (refused 16)) (refused 9)
+
+-- "So every colour has a hue.": that of an 8-bit colour is refused by 9 alone
+unfoldable pub colorHueSays : List Float → List Float → Srgb8 → Said Float
+colorHueSays cs ss c = cond (directionsTaken cs ss) (value (hueOf cs ss (srgb8ToLab c .a) (srgb8ToLab c .b))) (refused 9)

@@ -7,7 +7,7 @@ ghost use lib.ListN.{length};
 ghost use Prim.Native.Nat.{_<_};
 ghost use Rattle.color.specs.Color.{clampTo, gamutChannel, orOperand, rootInside, srgb8ToLinear, linearToSrgb8, weigh, linearToXyz, xyzToLinear, labF, labFInv, xyzToLab, labToXyz, linearToLab, labToLinear, srgb8ToLab, clampedOf, inGamut, chromaOf, lchToLab, lchInGamut};
 ghost use Rattle.color.specs.Parts.{fromHex, toHex};
-ghost use Rattle.color.specs.Hue.{sideAt, changes, hueOf, hueSaid, hueSays};
+ghost use Rattle.color.specs.Hue.{sideAt, changes, hueOf, hueSaid, hueSays, colorHueSays};
 ghost use Rattle.color.specs.Clip.{clippedOf};
 
 // Non-linear sRGB, 0 to 255 in each channel.
@@ -402,4 +402,15 @@ impl Lab {
         }
         Hue::Refused(Refusal::Directions)
     }
+}
+
+// The hue of an 8-bit colour in degrees, by 720 lent directions: every colour has one.
+pub fn srgb8_hue_deg(c: Srgb8, cos: &[f32], sin: &[f32]) -> Hue
+    ensures { λ r. ⌜ hueSaid r ≡ colorHueSays (now (cos .entry)) (now (sin .entry)) c ⌝ }
+{
+    if limits::takes_directions(cos, sin) {
+        let lab = srgb8_to_lab(c);
+        return Hue::Degrees(hue_of(cos, sin, lab.a, lab.b));
+    }
+    Hue::Refused(Refusal::Directions)
 }

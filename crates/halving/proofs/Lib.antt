@@ -8,4 +8,5 @@ pub mod Range
 pub mod Midway
 pub mod Width
 pub mod Plain
+pub mod Lower
 pub mod EndState

@@ -1,0 +1,8 @@
+pub mod Folds
+pub mod Lent
+pub mod Filling
+pub mod Checking
+pub mod Hues
+pub mod Ready
+pub mod Colors
+pub mod Lowering

@@ -1,0 +1,5 @@
+pub mod Derivation
+pub mod Metrics
+pub mod Validation
+pub mod BackOff
+pub mod Inner

@@ -1,0 +1,497 @@
+// Palettes: derivation, validation and back-off. `derive` and `back_off` of xtask/src/palette.rs, `Palette::new` and `validate`
+// of crates/lcr-core/src/palette.rs, with lent directions.
+use color::Hue;
+use color::Srgb8;
+use gamut::Gamut;
+use limits::Refusal;
+use placement::Checked;
+ghost use mathlib.Core.Path.{_≡_};
+ghost use mathlib.Core.Bool.{true, false, cond};
+ghost use Prim.Native.Nat.{_≤_};
+ghost use lib.Dec.{leb};
+ghost use lib.Ieee.{inf, binary32, sub};
+ghost use lib.ListN.{take, drop, replicate};
+ghost use Rattle.limits.specs.Answers.{value};
+ghost use Rattle.limits.specs.Taken.{chromaTaken, directionsTaken};
+ghost use Rattle.placement.specs.Placing.{checkSaid};
+ghost use Rattle.pair.specs.Rows.{greater};
+ghost use Rattle.palette.specs.Derivation.{huesTaken, designChecked, black, colorsOf, derivationSays, derivationSaid, colorsBeside};
+ghost use Rattle.palette.specs.Metrics.{highest, lowest, greatest, least, lightnessOf, chromaIn, hueIn, spreadIn, absolute, apart, leastFrom, leastApart, metricsOf};
+ghost use Rattle.palette.specs.Validation.{findings, firstOf, validationSays, verdictSaid, validationSaid, findingNumber};
+ghost use Rattle.palette.specs.BackOff.{judgeAt, endOf, backOffSays, backOffSaid, colorsAfter};
+ghost use Rattle.palette.specs.Inner.{Ready, Measurable, Measured, Placed, colorAt};
+
+// What a palette is derived from, but for its chroma.
+pub struct Design {
+    // how many hues
+    pub k: usize,
+    // the index of the dark level
+    pub dark: usize,
+    // the index of the light level
+    pub light: usize,
+    // the hue indices; those after the first k may be anything
+    pub hues: [u16; 16],
+}
+
+// Whether a palette was derived.
+pub enum Derivation {
+    // the colours beside it are the palette's
+    Derived,
+    // refused by 1, 3, 9, 11 or 12
+    Refused(Refusal),
+}
+
+// An answer with its colours: dark hues first, then light ones, zeros after the 2k, and all zero where it is refused.
+pub struct Palette {
+    pub answer: Derivation,
+    pub colors: [Srgb8; 32],
+}
+
+// What is measured of a palette.
+pub struct Metrics {
+    // the least lightness of the light level less the greatest of the dark one
+    pub gap: f32,
+    // how far the lightness ranges within a level
+    pub spread: f32,
+    // the least distance of two hues of a level, in degrees; plus infinity for one hue
+    pub separation: f32,
+    // the least chroma; plus infinity for one hue
+    pub chroma: f32,
+}
+
+// What can be wrong with a palette. The comment is document 01's number.
+pub enum Finding {
+    // 1: gap below 40
+    Gap,
+    // 2: spread above 12
+    Spread,
+    // 3: hue separation below 300 / k
+    Separation,
+    // 4: chroma below 35
+    Chroma,
+}
+
+// The first finding, or none.
+pub enum Verdict {
+    Passed,
+    Found(Finding),
+}
+
+// What validation says.
+pub enum Validation {
+    // the four metrics, and the first finding
+    Measured(Metrics, Verdict),
+    // refused by 1, 9 or 13
+    Refused(Refusal),
+}
+
+// What back-off says.
+pub enum BackOff {
+    // the first chroma without a finding
+    Passed(f32),
+    // no chroma is without: the last finding
+    Found(Finding),
+    // no chroma was tried
+    Untried,
+    // refused by 1, 3, 9, 11 or 12
+    Refused(Refusal),
+}
+
+// An answer with the colours of the chroma that passed, and all zero where none did.
+pub struct BackedOff {
+    pub answer: BackOff,
+    pub colors: [Srgb8; 32],
+}
+
+// The greatest and the least finite f32.
+const HIGHEST: f32 = 3.4028235e38;
+
+const LOWEST: f32 = -3.4028235e38;
+
+impl Finding {
+    // Document 01's number of a finding.
+    pub fn number(self) -> u8
+        ensures { λ r. ⌜ r ≡ findingNumber self ⌝ }
+    {
+        match self {
+            Finding::Gap => 1,
+            Finding::Spread => 2,
+            Finding::Separation => 3,
+            Finding::Chroma => 4,
+        }
+    }
+}
+
+// Whether the first k of sixteen hue indices are at most 719.
+fn takes_hues(k: usize, hues: [u16; 16]) -> bool
+    ensures { λ r. ⌜ r ≡ huesTaken k hues ⌝ }
+{
+    let mut i: usize = 0;
+    while i < 16 {
+        if i < k && 719 < hues[i] {
+            return false;
+        }
+        i += 1;
+    }
+    true
+}
+
+// The first refusal of 1, 3, 9, 11 and 12.
+fn check_design(design: Design, chroma: f32, cos: &[f32], sin: &[f32]) -> Checked
+    ensures { λ r. ⌜ checkSaid r ≡ designChecked design chroma (now (cos .entry)) (now (sin .entry)) (value tt) ⌝ }
+{
+    let k = design.k;
+    let hues = design.hues;
+    if !limits::takes_hue_count(k) {
+        return Checked::Wrong(Refusal::HueCount);
+    }
+    if !limits::takes_chroma(chroma) {
+        return Checked::Wrong(Refusal::Chroma);
+    }
+    if !limits::takes_directions(cos, sin) {
+        return Checked::Wrong(Refusal::Directions);
+    }
+    if !(design.dark < Gamut::LEVELS && design.light < Gamut::LEVELS) {
+        return Checked::Wrong(Refusal::LevelIndex);
+    }
+    if !takes_hues(k, hues) {
+        return Checked::Wrong(Refusal::HueIndex);
+    }
+    Checked::Fine
+}
+
+// The colour in place i of the 2k: the first k are dark.
+fn color_at(design: Design, chroma: f32, cos: &[f32], sin: &[f32], i: usize) -> Srgb8
+    requires { ⌜ Ready design (now cos) (now sin) × Placed design i ⌝ }
+    ensures { λ r. ⌜ r ≡ colorAt design chroma (now (cos .entry)) (now (sin .entry)) i ⌝ }
+{
+    let k = design.k;
+    let hues = design.hues;
+    if i < k {
+        let j = hues[i] as usize;
+        let dark = Gamut::l_of(design.dark as u16);
+        return color::lch_to_srgb8_gamut_clipped(dark, chroma, cos[j], sin[j]).color;
+    }
+    let j = hues[i - k] as usize;
+    let light = Gamut::l_of(design.light as u16);
+    color::lch_to_srgb8_gamut_clipped(light, chroma, cos[j], sin[j]).color
+}
+
+// Thirty-two zeros.
+fn no_colors() -> [Srgb8; 32]
+    ensures { λ r. ⌜ r ≡ replicate 32 black ⌝ }
+{
+    let black = Srgb8 { r: 0, g: 0, b: 0 };
+    [black; 32]
+}
+
+// The colours of a design at a chroma.
+fn colors_of(design: Design, chroma: f32, cos: &[f32], sin: &[f32]) -> [Srgb8; 32]
+    requires { ⌜ Ready design (now cos) (now sin) ⌝ }
+    ensures { λ r. ⌜ r ≡ colorsOf design chroma (now (cos .entry)) (now (sin .entry)) ⌝ }
+{
+    let count = design.k + design.k;
+    let mut colors = no_colors();
+    let mut i: usize = 0;
+    while i < count {
+        colors[i] = color_at(design, chroma, cos, sin, i);
+        i += 1;
+    }
+    colors
+}
+
+// Derives a palette: dark hues, then light ones.
+pub fn derive(design: Design, chroma: f32, cos: &[f32], sin: &[f32]) -> Palette
+    ensures { λ r. ⌜ (derivationSaid (r .answer) (r .colors) ≡ derivationSays design chroma (now (cos .entry)) (now (sin .entry))) × (r .colors ≡ colorsBeside (derivationSays design chroma (now (cos .entry)) (now (sin .entry)))) ⌝ }
+{
+    let checked = check_design(design, chroma, cos, sin);
+    match checked {
+        Checked::Wrong(why) => Palette {
+            answer: Derivation::Refused(why),
+            colors: no_colors(),
+        },
+        Checked::Fine => Palette {
+            answer: Derivation::Derived,
+            colors: colors_of(design, chroma, cos, sin),
+        },
+    }
+}
+
+// The greatest of some numbers.
+fn greatest(values: &[f32]) -> f32
+    ensures { λ r. ⌜ r ≡ greatest lowest (now (values .entry)) ⌝ }
+{
+    let mut hi = LOWEST;
+    let mut i: usize = 0;
+    while i < values.len() {
+        let v = values[i];
+        if hi < v {
+            hi = v;
+        }
+        i += 1;
+    }
+    hi
+}
+
+// The least of `from` and some numbers.
+fn least(from: f32, values: &[f32]) -> f32
+    ensures { λ r. ⌜ r ≡ least from (now (values .entry)) ⌝ }
+{
+    let mut lo = from;
+    let mut i: usize = 0;
+    while i < values.len() {
+        let v = values[i];
+        if v < lo {
+            lo = v;
+        }
+        i += 1;
+    }
+    lo
+}
+
+// How far some numbers range.
+fn range(values: &[f32]) -> f32
+    ensures { λ r. ⌜ r ≡ spreadIn (now (values .entry)) ⌝ }
+{
+    greatest(values) - least(HIGHEST, values)
+}
+
+// A number without its sign.
+fn absolute(x: f32) -> f32
+    ensures { λ r. ⌜ r ≡ absolute x ⌝ }
+{
+    if x < 0.0 {
+        return -x;
+    }
+    x
+}
+
+// How far apart two hues are, round the shorter way.
+fn apart(a: f32, b: f32) -> f32
+    ensures { λ r. ⌜ r ≡ apart a b ⌝ }
+{
+    let d = absolute(a - b);
+    let other = 360.0 - d;
+    if other < d {
+        return other;
+    }
+    d
+}
+
+// The least of `from` and the distances from one hue to others.
+fn least_from(from: f32, hue: f32, others: &[f32]) -> f32
+    ensures { λ r. ⌜ r ≡ leastFrom from hue (now (others .entry)) ⌝ }
+{
+    let mut lo = from;
+    let mut i: usize = 0;
+    while i < others.len() {
+        let d = apart(hue, others[i]);
+        if d < lo {
+            lo = d;
+        }
+        i += 1;
+    }
+    lo
+}
+
+// The least of `from` and the distances of any two of some hues.
+fn least_apart(from: f32, hues: &[f32]) -> f32
+    ensures { λ r. ⌜ r ≡ leastApart from (now (hues .entry)) ⌝ }
+{
+    let mut lo = from;
+    let mut i: usize = 0;
+    while i < hues.len() {
+        lo = least_from(lo, hues[i], &hues[i + 1..]);
+        i += 1;
+    }
+    lo
+}
+
+// The gap between the levels, by the lightness of their colours.
+fn gap_of(k: usize, l: [f32; 32]) -> f32
+    requires { ⌜ k ≤ 16 ⌝ }
+    ensures { λ r. ⌜ r ≡ sub binary32 (least highest (take k (drop k l))) (greatest lowest (take k l)) ⌝ }
+{
+    let dark = greatest(&l[0..k]);
+    let light = least(HIGHEST, &l[k..k + k]);
+    light - dark
+}
+
+// The greater spread of both levels, by the lightness of their colours.
+fn spread_of(k: usize, l: [f32; 32]) -> f32
+    requires { ⌜ k ≤ 16 ⌝ }
+    ensures { λ r. ⌜ r ≡ greater (spreadIn (take k l)) (spreadIn (take k (drop k l))) ⌝ }
+{
+    let dark = range(&l[0..k]);
+    let light = range(&l[k..k + k]);
+    if dark < light {
+        return light;
+    }
+    dark
+}
+
+// The least distance of two hues of a level. One hue has none.
+fn separation_of(k: usize, h: [f32; 32]) -> f32
+    requires { ⌜ k ≤ 16 ⌝ }
+    ensures { λ r. ⌜ r ≡ cond (leb 2 k) (leastApart (leastApart (inf false) (take k h)) (take k (drop k h))) (inf false) ⌝ }
+{
+    let none = f32::from_bits(0x7f80_0000);
+    if k < 2 {
+        return none;
+    }
+    let dark = least_apart(none, &h[0..k]);
+    least_apart(dark, &h[k..k + k])
+}
+
+// The least chroma of more than one hue.
+fn chroma_of(k: usize, c: [f32; 32]) -> f32
+    requires { ⌜ k ≤ 16 ⌝ }
+    ensures { λ r. ⌜ r ≡ cond (leb 2 k) (least (least (inf false) (take k c)) (take k (drop k c))) (inf false) ⌝ }
+{
+    let none = f32::from_bits(0x7f80_0000);
+    if k < 2 {
+        return none;
+    }
+    let dark = least(none, &c[0..k]);
+    least(dark, &c[k..k + k])
+}
+
+// The hue of a colour, by directions that are taken.
+fn hue_in(c: Srgb8, cos: &[f32], sin: &[f32]) -> f32
+    requires { ⌜ directionsTaken (now cos) (now sin) ≡ true ⌝ }
+    ensures { λ r. ⌜ r ≡ hueIn (now (cos .entry)) (now (sin .entry)) c ⌝ }
+{
+    let hue = color::srgb8_hue_deg(c, cos, sin);
+    match hue {
+        Hue::Degrees(h) => h,
+        Hue::Refused(_) => 0.0,
+    }
+}
+
+// Lightness, chroma and hue of colours, each in the place of its colour.
+struct Parts {
+    l: [f32; 32],
+    c: [f32; 32],
+    h: [f32; 32],
+}
+
+// Those of the first n colours.
+fn parts_of(n: usize, colors: [Srgb8; 32], cos: &[f32], sin: &[f32]) -> Parts
+    requires { ⌜ (n ≤ 32) × (directionsTaken (now cos) (now sin) ≡ true) ⌝ }
+    ensures { λ r. ⌜ Measured lightnessOf n colors (r .l) × (Measured chromaIn n colors (r .c) × Measured (hueIn (now (cos .entry)) (now (sin .entry))) n colors (r .h)) ⌝ }
+{
+    let mut l = [0.0f32; 32];
+    let mut c = [0.0f32; 32];
+    let mut h = [0.0f32; 32];
+    let mut i: usize = 0;
+    while i < n {
+        let color = colors[i];
+        let lab = color::srgb8_to_lab(color);
+        l[i] = lab.l;
+        c[i] = lab.chroma();
+        h[i] = hue_in(color, cos, sin);
+        i += 1;
+    }
+    Parts { l, c, h }
+}
+
+// The four metrics of 2k colours.
+fn measure(k: usize, colors: [Srgb8; 32], cos: &[f32], sin: &[f32]) -> Metrics
+    requires { ⌜ Measurable k (now cos) (now sin) ⌝ }
+    ensures { λ r. ⌜ r ≡ metricsOf k colors (now (cos .entry)) (now (sin .entry)) ⌝ }
+{
+    let parts = parts_of(k + k, colors, cos, sin);
+    let l = parts.l;
+    let c = parts.c;
+    let h = parts.h;
+    Metrics {
+        gap: gap_of(k, l),
+        spread: spread_of(k, l),
+        separation: separation_of(k, h),
+        chroma: chroma_of(k, c),
+    }
+}
+
+// The first finding, in the order tested.
+fn first_finding(k: usize, m: Metrics) -> Verdict
+    requires { ⌜ k ≤ 16 ⌝ }
+    ensures { λ r. ⌜ verdictSaid r ≡ firstOf (findings k m) ⌝ }
+{
+    if m.gap < 40.0 {
+        return Verdict::Found(Finding::Gap);
+    }
+    if 12.0 < m.spread {
+        return Verdict::Found(Finding::Spread);
+    }
+    if 2 <= k {
+        if m.separation < 300.0 / k as f32 {
+            return Verdict::Found(Finding::Separation);
+        }
+        if m.chroma < 35.0 {
+            return Verdict::Found(Finding::Chroma);
+        }
+    }
+    Verdict::Passed
+}
+
+// Validates a palette of 2k colours; `count` says how many of the 32 there are.
+pub fn validate(k: usize, colors: [Srgb8; 32], count: usize, cos: &[f32], sin: &[f32]) -> Validation
+    ensures { λ r. ⌜ validationSaid r ≡ validationSays k colors count (now (cos .entry)) (now (sin .entry)) ⌝ }
+{
+    if !limits::takes_hue_count(k) {
+        return Validation::Refused(Refusal::HueCount);
+    }
+    if !limits::takes_directions(cos, sin) {
+        return Validation::Refused(Refusal::Directions);
+    }
+    if count != k + k {
+        return Validation::Refused(Refusal::ColorCount);
+    }
+    let metrics = measure(k, colors, cos, sin);
+    let verdict = first_finding(k, metrics);
+    Validation::Measured(metrics, verdict)
+}
+
+// Lowers a chroma by 0.05 while it is at least 35, until its palette has no finding.
+fn lower_from(design: Design, chroma: f32, cos: &[f32], sin: &[f32]) -> BackedOff
+    requires { ⌜ Ready design (now cos) (now sin) × (chromaTaken chroma ≡ true) ⌝ }
+    ensures { λ r. ⌜ (backOffSaid (r .answer) ≡ value (endOf (judgeAt design (now (cos .entry)) (now (sin .entry))) chroma)) × (r .colors ≡ colorsAfter design (now (cos .entry)) (now (sin .entry)) (value (endOf (judgeAt design (now (cos .entry)) (now (sin .entry))) chroma))) ⌝ }
+{
+    let k = design.k;
+    let mut c = chroma;
+    let mut last = BackOff::Untried;
+    while 35.0 <= c {
+        let colors = colors_of(design, c, cos, sin);
+        let verdict = first_finding(k, measure(k, colors, cos, sin));
+        match verdict {
+            Verdict::Passed => {
+                return BackedOff {
+                    answer: BackOff::Passed(c),
+                    colors,
+                };
+            }
+            Verdict::Found(f) => {
+                last = BackOff::Found(f);
+            }
+        }
+        c -= 0.05;
+    }
+    BackedOff {
+        answer: last,
+        colors: no_colors(),
+    }
+}
+
+// The largest chroma at or below the one asked for, in steps of 0.05, whose palette has no finding.
+pub fn back_off(design: Design, chroma: f32, cos: &[f32], sin: &[f32]) -> BackedOff
+    ensures { λ r. ⌜ (backOffSaid (r .answer) ≡ backOffSays design chroma (now (cos .entry)) (now (sin .entry))) × (r .colors ≡ colorsAfter design (now (cos .entry)) (now (sin .entry)) (backOffSays design chroma (now (cos .entry)) (now (sin .entry)))) ⌝ }
+{
+    let checked = check_design(design, chroma, cos, sin);
+    match checked {
+        Checked::Wrong(why) => BackedOff {
+            answer: BackOff::Refused(why),
+            colors: no_colors(),
+        },
+        Checked::Fine => lower_from(design, chroma, cos, sin),
+    }
+}
