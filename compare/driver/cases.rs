@@ -140,6 +140,11 @@ impl List<'_> {
         line(self.out, operation, words)
     }
 
+    /// Writes a comment.
+    pub fn comment(&mut self, text: &str) -> io::Result<()> {
+        writeln!(self.out, "# {text}")
+    }
+
     /// Writes one case of an operation over floats.
     pub fn floats(&mut self, operation: &str, input: &[f32]) -> io::Result<()> {
         let words: Vec<u32> = input.iter().copied().map(word).collect();

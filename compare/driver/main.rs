@@ -7,6 +7,7 @@ mod check;
 mod chroma; // max_chroma and l_of, taken from the published file by compare/build
 #[allow(dead_code)]
 mod color; // the published file, patched by compare/build
+mod deriving; // derive and back_off, taken from the published file by compare/build
 mod gamut;
 mod gamut_lists;
 mod job;
@@ -15,6 +16,9 @@ mod pair;
 mod pair_lists;
 mod pairing; // best_for_levels, search and their table, taken from the published file by compare/build
 mod palette; // the white point, taken from the published file by compare/build
+mod palette_edges;
+mod palette_lists;
+mod palettes;
 mod placement;
 mod placement_lists;
 mod placing; // feasible, place_from and the step, taken from the published file by compare/build
@@ -24,6 +28,8 @@ mod random;
 mod search;
 mod search_lists;
 mod standins;
+#[allow(dead_code)]
+mod validating; // a palette, its validation and the printed ones, taken from the published file by compare/build
 
 use std::io::{self, BufWriter, Write};
 use std::process::ExitCode;
@@ -61,6 +67,11 @@ fn main() -> ExitCode {
             (Ok(seed), Ok(count)) => search_lists::many(&mut out, seed, count),
             _ => return usage(),
         },
+        ["palette-list"] => palette_lists::fixed(&mut out),
+        ["palette-many", seed, count] => match (seed.parse(), count.parse()) {
+            (Ok(seed), Ok(count)) => palette_lists::many(&mut out, seed, count),
+            _ => return usage(),
+        },
         ["tables"] => tables(&mut out),
         ["check"] => check::all(&mut out),
         _ => return usage(),
@@ -81,6 +92,7 @@ fn usage() -> ExitCode {
     eprintln!("       driver placement-list | placement-all | placement-many SEED COUNT");
     eprintln!("       driver pair-list | pair-many SEED COUNT");
     eprintln!("       driver search-list | search-many SEED COUNT");
+    eprintln!("       driver palette-list | palette-many SEED COUNT");
     ExitCode::from(2)
 }
 

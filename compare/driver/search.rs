@@ -21,7 +21,7 @@ fn equal(a: &[f32], b: &[f32]) -> bool {
 }
 
 /// The rows of every level in these directions.
-fn panel(cos: &[f32], sin: &[f32]) -> Vec<f32> {
+pub fn panel(cos: &[f32], sin: &[f32]) -> Vec<f32> {
     let entry = |level: usize, j: usize| max_chroma(l_of(level), cos[j], sin[j]);
     let row = |level: usize| (0..DIRECTIONS).map(move |j| entry(level, j));
     (0..LEVELS).flat_map(row).collect()
