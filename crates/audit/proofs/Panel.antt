@@ -1,6 +1,6 @@
 -- What `search` hands out is the panel's limit to within one f32 (`found-is-limit`), and its none means that none exists (`none-means-none`): demand 3 at the list of a start and
 -- all its steps. Assumes nothing.
-use mathlib.Core.Path.{_≡_, refl, sym, ap, _∙_, subst}
+use mathlib.Core.Path.{_≡_, refl, sym, _∙_, subst}
 use mathlib.Core.Bool.{Bool, true, false, cond}
 use mathlib.Core.List.{List}
 use Prim.Native.Nat.{ℕ, suc, _+_, _*_, _≤_, _<_}
@@ -20,7 +20,8 @@ use Rattle.search.specs.declared.Job.{Job}
 use Rattle.search.specs.Job.{levelsIn, tableTaken, gapStarts, begun, startChecked, startSays, stepsFrom, searchSays}
 use Rattle.search.specs.Runs.{Choice, commonOf, Promise, run, wholeSearch}
 use Rattle.search.specs.Accepted.{StartTaken}
-use Rattle.search.proofs.Laws.{Good, four}
+use Rattle.search.proofs.Checking.{four}
+use Rattle.search.proofs.Laws.{Good}
 use Rattle.search.proofs.Accepted.{start-only}
 use Rattle.search.proofs.Goes.{all-accepted, search-is-run}
 use Rattle.search.proofs.Runs.{whole-runs}

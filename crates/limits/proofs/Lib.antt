@@ -2,3 +2,4 @@ pub mod Directions
 pub mod Every
 pub mod Floats
 pub mod HueCount
+pub mod Checks

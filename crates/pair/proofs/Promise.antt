@@ -2,18 +2,19 @@
 -- is none, all hues that are spaced have less in common than the floor (`none-is-none`). Assumes nothing.
 use mathlib.Core.Path.{_≡_, refl, sym, ap, _∙_, subst}
 use mathlib.Core.Logic.{_⊎_, inl, inr}
-use mathlib.Core.Bool.{Bool, true, false, _&&_, cond}
+use mathlib.Core.Bool.{Bool, true, false, cond}
 use mathlib.Core.List.{List}
 use Prim.Native.Nat.{ℕ, _≤_, _<_}
 use native.Mathlib.Omega.{arith}
-use lib.Dec.{T, leb}
+use lib.Dec.{leb}
 use lib.Ieee.{Float, binary32, toBits, lt, le}
 use lib.ListN.{length, getD, take, replicate}
 use borrow.Author.Tests.{leb-true}
-use Rattle.limits.specs.Answers.{Said, value, refused}
-use Rattle.limits.specs.Taken.{f32Of, upTo, hueCountTaken, chromaTaken}
+use Rattle.limits.specs.Answers.{Said, value}
+use Rattle.limits.specs.Taken.{f32Of, upTo, chromaTaken}
 use Rattle.limits.proofs.Floats.{never}
 use Rattle.limits.proofs.HueCount.{both, hue-count}
+use Rattle.limits.proofs.Checks.{all-pass}
 use Rattle.halving.specs.Midpoint.{halved, halve}
 use Rattle.halving.specs.Patterns.{next}
 use Rattle.halving.proofs.Halve.{kept}
@@ -21,8 +22,9 @@ use Rattle.halving.proofs.Range.{halve-up-to, taken-up-to, up-to-taken}
 use Rattle.halving.proofs.Plain.{Plain, le-through, not-lt-le, not-le-lt, le-not-lt, lt-then-le, taken-plain, next-plain, next-above}
 use Rattle.halving.proofs.EndState.{end-state, end-plain, end-above}
 use Rattle.placement.specs.Ring.{Places, nowhere, placed, placement}
-use Rattle.placement.specs.Placing.{allowedAt, workNeeded, sixteen, stores}
+use Rattle.placement.specs.Placing.{allowedAt, sixteen, stores}
 use Rattle.placement.specs.Spacing.{Spaced}
+use Rattle.placement.proofs.Checking.{checks}
 use Rattle.placement.proofs.Laws.{sound, complete}
 use Rattle.placement.proofs.First.{round}
 use Rattle.placement.proofs.Stored.{first-stored}
@@ -213,17 +215,6 @@ module _ (k step : ℕ) (floor : Float) (row : List Float) where
       go false true nowhere x y z h = never (ap some (sym z) ∙ kept y)
       go false true (placed js) x y z h = absurd (let w : _≡_ {A = ℕ} 0 1 = cc in omega arith)
 
--- ---- what is said is said of arguments that are taken
-six : {A : Type 0} (a b c d e f : Bool) (x : Said A) (v : A) → cond a (cond b (cond c (cond d (cond e (cond f x (refused 8)) (refused 7)) (refused 5)) (refused 4)) (refused 3)) (refused 1) ≡ value v
-    → ((a ≡ true) × ((b ≡ true) × ((c ≡ true) × ((d ≡ true) × (e ≡ true))))) × (x ≡ value v)
-six false b c d e f x v h = absurd (let z : _≡_ {A = ℕ} 0 1 = cc in omega arith)
-six true false c d e f x v h = absurd (let z : _≡_ {A = ℕ} 0 1 = cc in omega arith)
-six true true false d e f x v h = absurd (let z : _≡_ {A = ℕ} 0 1 = cc in omega arith)
-six true true true false e f x v h = absurd (let z : _≡_ {A = ℕ} 0 1 = cc in omega arith)
-six true true true true false f x v h = absurd (let z : _≡_ {A = ℕ} 0 1 = cc in omega arith)
-six true true true true true false x v h = absurd (let z : _≡_ {A = ℕ} 0 1 = cc in omega arith)
-six true true true true true true x v h = ((refl, (refl, (refl, (refl, refl)))), h)
-
 -- ---- the two theorems
 module _ (k step : ℕ) (floor : Float) (rows : List (List Float)) (room : ℕ) (F : F32 floor) (f32 : RowsF32 rows) where
   record Sound (best : Best) : Type 0 where
@@ -240,11 +231,11 @@ module _ (k step : ℕ) (floor : Float) (rows : List (List Float)) (room : ℕ) 
   unfolding rowsSay rowsChecked
   said best h =
       let n = ringLength rows in
-      let t = six (hueCountTaken k) (chromaTaken floor) (lengthsTaken rows) (leb 1 step && leb step n) (entriesTaken rows) (leb (workNeeded n) room) (value (bestOver k step floor (leastRow rows))) best h in
+      let t = all-pass (checks k step floor n (lengthsTaken rows) (entriesTaken rows) room) (value (bestOver k step floor (leastRow rows))) best h in
       let a = hue-count k (t .0 .0) in
       let s = both (leb 1 step) (leb step n) (t .0 .1 .1 .1 .0) in
       let e : bestOver k step floor (leastRow rows) ≡ best = same (bestOver k step floor (leastRow rows)) best (t .1) in
-      record { some-hue = a .0; few-hues = a .1; some-step = leb-true 1 step (s .0); within = leb-true step n (s .1); lengths = t .0 .1 .1 .0; entries = t .0 .1 .1 .1 .1; taken = t .0 .1 .0; is = e }
+      record { some-hue = a .0; few-hues = a .1; some-step = leb-true 1 step (s .0); within = leb-true step n (s .1); lengths = t .0 .1 .1 .0; entries = t .0 .1 .1 .1 .1 .0; taken = t .0 .1 .0; is = e }
     where
       same : (x y : Best) → _≡_ {A = Said Best} (value x) (value y) → x ≡ y
       same x y h = cc

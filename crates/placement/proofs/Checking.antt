@@ -1,15 +1,15 @@
 -- What the checks of the arguments say, whatever a good call says after them: all pass and it is said, or one fails and its number is. Assumes nothing.
-use mathlib.Core.Path.{_≡_, refl, sym, ap, _∙_}
-use mathlib.Core.Bool.{Bool, true, false, _&&_, cond}
-use mathlib.Core.List.{List}
+use mathlib.Core.Path.{_≡_, sym, ap, _∙_}
+use mathlib.Core.Bool.{Bool, true, _&&_}
+use mathlib.Core.List.{List, [], _∷_}
 use Prim.Native.Nat.{ℕ, _*_, _≤_}
-use native.Mathlib.Omega.{arith}
 use lib.Dec.{leb}
 use lib.Ieee.{Float}
 use lib.ListN.{length}
 use borrow.Author.Tests.{leb-true}
 use Rattle.limits.specs.Answers.{Said, value, refused}
 use Rattle.limits.specs.Taken.{hueCountTaken, chromaTaken, entryTaken, every}
+use Rattle.limits.proofs.Checks.{Check, check, all-pass, said, failing, differ}
 use Rattle.limits.proofs.HueCount.{both, hue-count}
 use Rattle.limits.specs.Refusals.{number}
 use Rattle.limits.specs.declared.Refusal.{Refusal}
@@ -19,10 +19,6 @@ use Rattle.placement.specs.Ring.{placement}
 use Rattle.placement.specs.Placing.{allowedAt, sixteen, workNeeded, checkedRing, checked, checkSaid, placementSays}
 use Rattle.placement.specs.Inner.{Asked}
 
--- six checks, by what they found
-abbrev after : {A : Type 0} → Bool → Bool → Bool → Bool → Bool → Bool → Said A → Said A
-after a b c d e f x = cond a (cond b (cond c (cond d (cond e (cond f x (refused 8)) (refused 7)) (refused 5)) (refused 4)) (refused 3)) (refused 1)
-
 -- the answers of the checks alone
 abbrev pub pass : Said (Unit {0})
 pass = value tt
@@ -30,40 +26,22 @@ pass = value tt
 abbrev pub fail : ℕ → Said (Unit {0})
 fail n = refused n
 
--- two answers that cannot be the same
-differ : {A : Type 0} (n : ℕ) → fail n ≡ pass → A
-differ n h = absurd (let z : _≡_ {A = ℕ} 0 1 = cc in omega arith)
-
-passes : (a b c d e f : Bool) → after a b c d e f pass ≡ pass → (a ≡ true) × (b ≡ true) × (c ≡ true) × (d ≡ true) × (e ≡ true) × (f ≡ true)
-passes false b c d e f h = differ 1 h
-passes true false c d e f h = differ 3 h
-passes true true false d e f h = differ 4 h
-passes true true true false e f h = differ 5 h
-passes true true true true false f h = differ 7 h
-passes true true true true true false h = differ 8 h
-passes true true true true true true h = (refl, refl, refl, refl, refl, refl)
-
-fails : {A : Type 0} (a b c d e f : Bool) (x : Said A) (n : ℕ) → after a b c d e f pass ≡ fail n → after a b c d e f x ≡ refused n
-fails false b c d e f x n h = let same : _≡_ {A = ℕ} 1 n = cc in ap refused same
-fails true false c d e f x n h = let same : _≡_ {A = ℕ} 3 n = cc in ap refused same
-fails true true false d e f x n h = let same : _≡_ {A = ℕ} 4 n = cc in ap refused same
-fails true true true false e f x n h = let same : _≡_ {A = ℕ} 5 n = cc in ap refused same
-fails true true true true false f x n h = let same : _≡_ {A = ℕ} 7 n = cc in ap refused same
-fails true true true true true false x n h = let same : _≡_ {A = ℕ} 8 n = cc in ap refused same
-fails true true true true true true x n h = absurd (let z : _≡_ {A = ℕ} 0 1 = cc in omega arith)
-
 -- ---- for a ring, by what 4 and 7 find
 module _ (k step : ℕ) (c : Float) (n : ℕ) (lengths entries : Bool) (room : ℕ) where
+  -- its checks in the order of their numbers
+  abbrev pub checks : List Check
+  checks = check (hueCountTaken k) 1 ∷ check (chromaTaken c) 3 ∷ check lengths 4 ∷ check (leb 1 step && leb step n) 5 ∷ check entries 7 ∷ check (leb (workNeeded n) room) 8 ∷ []
+
   pub ring-passes : checkedRing k step c n lengths entries room pass ≡ pass → (hueCountTaken k ≡ true) × (chromaTaken c ≡ true) × (lengths ≡ true) × ((leb 1 step && leb step n) ≡ true) × (entries ≡ true) × (leb (workNeeded n) room ≡ true)
-  ring-passes h = passes (hueCountTaken k) (chromaTaken c) lengths (leb 1 step && leb step n) entries (leb (workNeeded n) room) h
+  ring-passes h = let t = all-pass checks pass tt h .0 in (t .0, t .1 .0, t .1 .1 .0, t .1 .1 .1 .0, t .1 .1 .1 .1 .0, t .1 .1 .1 .1 .1 .0)
 
   -- all pass: what a good call says is said
   pub ring-accepted : {A : Type 0} (x : Said A) → checkedRing k step c n lengths entries room pass ≡ pass → checkedRing k step c n lengths entries room x ≡ x
-  ring-accepted x h = let t = ring-passes h in rw (t .0, t .1, t .2, t .3, t .4, t .5)
+  ring-accepted x h = said checks x (all-pass checks pass tt h .0)
 
   -- one fails: its number is said
   pub ring-rejected : {A : Type 0} (x : Said A) (w : ℕ) → checkedRing k step c n lengths entries room pass ≡ fail w → checkedRing k step c n lengths entries room x ≡ refused w
-  ring-rejected x w h = fails (hueCountTaken k) (chromaTaken c) lengths (leb 1 step && leb step n) entries (leb (workNeeded n) room) x w h
+  ring-rejected x w h = failing checks x tt w h
 
   -- at another chroma that is taken
   pub ring-at-chroma : (d : Float) → chromaTaken d ≡ true → checkedRing k step c n lengths entries room pass ≡ pass → checkedRing k step d n lengths entries room pass ≡ pass
@@ -121,4 +99,4 @@ module _ (k step : ℕ) (c : Float) (row : List Float) (room : ℕ) where
 
 -- nothing is both said and refused
 pub said-twice : {A B : Type 0} {x : Said A} {a : A} {n : ℕ} → x ≡ value a → x ≡ refused n → B
-said-twice g h = absurd (let z : _≡_ {A = ℕ} 0 1 = cc in omega arith)
+said-twice {a = a} {n = n} g h = differ n a (sym h ∙ g)

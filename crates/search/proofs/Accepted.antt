@@ -1,6 +1,6 @@
 -- Start is accepted exactly on document 01's conditions, and so is step (`start-exactly`, `step-exactly`); a record passes the test of number 15 exactly where every field is in
 -- its range (`unbroken-exactly`). Assumes nothing.
-use mathlib.Core.Path.{_≡_, refl, ap, subst}
+use mathlib.Core.Path.{_≡_, refl, subst}
 use mathlib.Core.Logic.{_↔_}
 use mathlib.Core.Bool.{Bool, true, false, _&&_, cond}
 use mathlib.Core.List.{List, [], _∷_}
@@ -22,7 +22,7 @@ use Rattle.search.specs.declared.Job.{Job}
 use Rattle.search.specs.Job.{levelsIn, rowAt, tableTaken, begun, startChecked, startSays, bestHeld, handed, huesHeld, unbroken, qualifies, movedOn, afterPair, pairBest, searched, stepChecked, stepSays}
 use Rattle.search.specs.Runs.{FarApart}
 use Rattle.search.specs.Accepted.{Accepted, Between, EachTaken, StartTaken, BestWithin, HueWithin, Unbroken, StepTaken}
-use Rattle.search.proofs.Laws.{four}
+use Rattle.search.proofs.Checking.{four}
 use Rattle.search.proofs.Apart.{far-apart, qualified}
 
 -- both tests pass

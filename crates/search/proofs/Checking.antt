@@ -1,17 +1,17 @@
 -- What the checks of a start and of a step say, whatever a good call says after them: all pass and it is said, or one fails and its number is. Assumes nothing.
-use mathlib.Core.Path.{_≡_, refl, sym, ap, _∙_}
-use mathlib.Core.Bool.{Bool, true, false, _&&_, cond}
-use mathlib.Core.List.{List}
+use mathlib.Core.Path.{_≡_, sym, ap, _∙_}
+use mathlib.Core.Bool.{Bool, true, _&&_}
+use mathlib.Core.List.{List, [], _∷_}
 use Prim.Native.Nat.{ℕ, _*_, _≤_, _<_}
-use native.Mathlib.Omega.{arith}
 use lib.Dec.{leb, ltb, eqb}
 use lib.Ieee.{Float}
 use lib.ListN.{length}
 use borrow.Author.Tests.{leb-true, ltb-true, eqb-true}
-use Rattle.limits.specs.Answers.{Said, refused}
+use Rattle.limits.specs.Answers.{Said, value, refused}
 use Rattle.limits.specs.Refusals.{number}
 use Rattle.limits.specs.Taken.{hueCountTaken, gapTaken, entryTaken, every}
 use Rattle.limits.specs.declared.Refusal.{Refusal}
+use Rattle.limits.proofs.Checks.{Check, check, through, all-pass, failing}
 use Rattle.limits.proofs.HueCount.{both}
 use Rattle.placement.specs.declared.Checked.{Checked}
 use Rattle.placement.specs.declared.Checked.the-variants.{Fine, Wrong}
@@ -21,28 +21,21 @@ use Rattle.search.specs.declared.Settings.{Settings}
 use Rattle.search.specs.declared.Job.{Job}
 use Rattle.search.specs.Job.{levelsIn, tableTaken, startChecked, unbroken, stepChecked}
 
--- four checks, by what they found and by their numbers
-abbrev after : {A : Type 0} → (k l m n : ℕ) → Bool → Bool → Bool → Bool → Said A → Said A
-after k l m n a b c d x = cond a (cond b (cond c (cond d x (refused n)) (refused m)) (refused l)) (refused k)
+-- four checks, by their numbers and by what they found
+abbrev pub checks : (k l m n : ℕ) → Bool → Bool → Bool → Bool → List Check
+checks k l m n a b c d = check a k ∷ check b l ∷ check c m ∷ check d n ∷ []
 
--- two answers that cannot be the same
-differ : {A : Type 0} (n : ℕ) → fail n ≡ pass → A
-differ n h = absurd (let z : _≡_ {A = ℕ} 0 1 = cc in omega arith)
+-- what is said of them where all pass
+pub four : {A : Type 0} (a b c d : Bool) (k l m n : ℕ) (x : Said A) (v : A) → through (checks k l m n a b c d) x ≡ value v
+    → ((a ≡ true) × ((b ≡ true) × ((c ≡ true) × (d ≡ true)))) × (x ≡ value v)
+four a b c d k l m n x v h = let t = all-pass (checks k l m n a b c d) x v h in ((t .0 .0, (t .0 .1 .0, (t .0 .1 .1 .0, t .0 .1 .1 .1 .0))), t .1)
 
 module _ (k l m n : ℕ) where
-  passes : (a b c d : Bool) → after k l m n a b c d pass ≡ pass → (a ≡ true) × (b ≡ true) × (c ≡ true) × (d ≡ true)
-  passes false b c d h = differ k h
-  passes true false c d h = differ l h
-  passes true true false d h = differ m h
-  passes true true true false h = differ n h
-  passes true true true true h = (refl, refl, refl, refl)
+  passes : (a b c d : Bool) → through (checks k l m n a b c d) pass ≡ pass → (a ≡ true) × (b ≡ true) × (c ≡ true) × (d ≡ true)
+  passes a b c d h = let t = four a b c d k l m n pass tt h .0 in (t .0, t .1 .0, t .1 .1 .0, t .1 .1 .1)
 
-  fails : {A : Type 0} (a b c d : Bool) (x : Said A) (w : ℕ) → after k l m n a b c d pass ≡ fail w → after k l m n a b c d x ≡ refused w
-  fails false b c d x w h = let same : _≡_ {A = ℕ} k w = cc in ap refused same
-  fails true false c d x w h = let same : _≡_ {A = ℕ} l w = cc in ap refused same
-  fails true true false d x w h = let same : _≡_ {A = ℕ} m w = cc in ap refused same
-  fails true true true false x w h = let same : _≡_ {A = ℕ} n w = cc in ap refused same
-  fails true true true true x w h = absurd (let z : _≡_ {A = ℕ} 0 1 = cc in omega arith)
+  fails : {A : Type 0} (a b c d : Bool) (x : Said A) (w : ℕ) → through (checks k l m n a b c d) pass ≡ fail w → through (checks k l m n a b c d) x ≡ refused w
+  fails a b c d x w h = failing (checks k l m n a b c d) x tt w h
 
 -- ---- a start
 -- what passing says of the table

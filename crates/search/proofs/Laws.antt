@@ -7,7 +7,7 @@ use mathlib.Core.List.{List, [], _∷_}
 use Prim.Native.Nat.{ℕ, zero, suc, _+_, _-_, _*_, _/_, _%_, _≤_, _<_}
 use native.Mathlib.Nat.{le-refl, mul-le-mul-right, suc-mul, mul-add-div-right, mul-add-mod-self-right, mod-eq-of-lt, div-eq-of-lt, add-zero, min-eq-left, mod-lt, div-lt-iff-lt-mul, div-add-mod', not-suc-le-zero}
 use native.Mathlib.Omega.{arith}
-use lib.Dec.{T, leb, ltb, eqb}
+use lib.Dec.{leb, ltb, eqb}
 use lib.IntN.{pos}
 use lib.Ieee.{Float, binary32, toBits, isNan, lt, le, ofInt}
 use lib.Ieee.Fits.{ofInt-fits}
@@ -34,7 +34,7 @@ use Rattle.search.specs.declared.Best.the-variants.{None, Found}
 use Rattle.search.specs.declared.Job.{Job}
 use Rattle.search.specs.Job.{levelsIn, rowAt, tableTaken, bestHeld, unbroken, qualifies, floorOf, beats, movedOn, replaced, afterPair, pairBest, searched, stepChecked, stepSays, begun, startChecked, startSays}
 use Rattle.search.specs.Runs.{Choice, commonOf, Promise}
-use Rattle.search.proofs.Checking.{Levelled, levelled}
+use Rattle.search.proofs.Checking.{Levelled, levelled, four}
 use Rattle.search.proofs.Sound.{sound, chroma-between, floor-taken, step-taken, rows-left}
 use Rattle.search.proofs.Apart.{far-apart, qualified}
 
@@ -398,15 +398,6 @@ module _ (t : List Float) (s : Settings) (n : ℕ) (j : Job) (kept : Kept t s n 
             floor-plain = chroma-plain (floorOf (j .best)) F₀ (floor-taken (j .levels) (j .best) best-held) .0
 
 -- ---- an accepted step
--- four checks that all pass
-pub four : {A : Type 0} (a b c d : Bool) (k l m n : ℕ) (x : Said A) (v : A) → cond a (cond b (cond c (cond d x (refused n)) (refused m)) (refused l)) (refused k) ≡ value v
-    → ((a ≡ true) × ((b ≡ true) × ((c ≡ true) × (d ≡ true)))) × (x ≡ value v)
-four false b c d k l m n x v h = absurd (let z : _≡_ {A = ℕ} 0 1 = cc in omega arith)
-four true false c d k l m n x v h = absurd (let z : _≡_ {A = ℕ} 0 1 = cc in omega arith)
-four true true false d k l m n x v h = absurd (let z : _≡_ {A = ℕ} 0 1 = cc in omega arith)
-four true true true false k l m n x v h = absurd (let z : _≡_ {A = ℕ} 0 1 = cc in omega arith)
-four true true true true k l m n x v h = ((refl, (refl, (refl, refl))), h)
-
 same-job : (x y : Job) → _≡_ {A = Said Job} (value x) (value y) → x ≡ y
 same-job x y h = cc
 
