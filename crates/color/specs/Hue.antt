@@ -2,15 +2,18 @@
 -- with y = -x(j+1) the hue is 0.5 × (j + x / (x + y)); no such j gives 0. Definitions only.
 use Prim.Native.Nat.{ℕ, zero, suc, _+_, _%_}
 use mathlib.Core.Bool.{Bool, false, _&&_, cond}
-use mathlib.Core.List.{List}
+use mathlib.Core.List.{List, [], _∷_}
+use lib.Dec.{leb}
 use lib.Ieee.{Float, nan, binary32, round, add, sub, mul, div, neg, lt, le}
-use lib.ListN.{getD}
+use lib.ListN.{getD, replicate}
 use Rattle.limits.specs.Answers.{Said, value, refused}
 use Rattle.limits.specs.Refusals.{number}
 use Rattle.limits.specs.Taken.{f32Of, directionsTaken, hueOperandTaken}
 use Rattle.color.specs.declared.Srgb8.{Srgb8}
 use Rattle.color.specs.declared.Hue.{Hue}
 use Rattle.color.specs.declared.Hue.the-variants.{Degrees, Refused}
+use Rattle.color.specs.declared.Hued.{Hued}
+use Rattle.color.specs.declared.Hued.the-variants as hued
 use Rattle.color.specs.Color.{srgb8ToLab}
 
 -- x(j)
@@ -56,6 +59,26 @@ hueSaid (Refused w) = refused (number w)
 unfoldable pub hueSays : List Float → List Float → Float → Float → Said Float
 hueSays cs ss a b = cond (directionsTaken cs ss) (cond (hueOperandTaken a && hueOperandTaken b) (value (hueOf cs ss a b)) (refused 16)) (refused 9)
 
--- "So every colour has a hue.": that of an 8-bit colour is refused by 9 alone
-unfoldable pub colorHueSays : List Float → List Float → Srgb8 → Said Float
-colorHueSays cs ss c = cond (directionsTaken cs ss) (value (hueOf cs ss (srgb8ToLab c .a) (srgb8ToLab c .b))) (refused 9)
+-- ---- the hues of 8-bit colours
+-- "So every colour has a hue."
+unfoldable pub colorHue : List Float → List Float → Srgb8 → Float
+colorHue cs ss c = hueOf cs ss (srgb8ToLab c .a) (srgb8ToLab c .b)
+
+-- those of the first n colours, and 0 for the others
+unfoldable pub colorHues : List Float → List Float → ℕ → List Srgb8 → List Float
+colorHues cs ss n [] = []
+colorHues cs ss zero (c ∷ colors) = f32Of 0 ∷ colorHues cs ss zero colors
+colorHues cs ss (suc n) (c ∷ colors) = colorHue cs ss c ∷ colorHues cs ss n colors
+
+-- refusals 9, and 13 for a number beside 32 colours that is above 32; never 16
+unfoldable pub huesSays : List Float → List Float → ℕ → List Srgb8 → Said (List Float)
+huesSays cs ss n colors = cond (directionsTaken cs ss) (cond (leb n 32) (value (colorHues cs ss n colors)) (refused 13)) (refused 9)
+
+-- what an answer hands back, with the degrees that stand beside it: all zero where it is refused
+abbrev pub huesSaid : Hued → List Float → Said (List Float)
+huesSaid hued.Given degrees = value degrees
+huesSaid (hued.Refused w) degrees = refused (number w)
+
+abbrev pub degreesBeside : Said (List Float) → List Float
+degreesBeside (value degrees) = degrees
+degreesBeside (refused n) = replicate 32 (f32Of 0)

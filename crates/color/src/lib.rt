@@ -4,10 +4,10 @@ use limits::Refusal;
 use roots::Root;
 ghost use mathlib.Core.Path.{_≡_};
 ghost use lib.ListN.{length};
-ghost use Prim.Native.Nat.{_<_};
+ghost use Prim.Native.Nat.{_≤_, _<_};
 ghost use Rattle.color.specs.Color.{clampTo, gamutChannel, orOperand, rootInside, srgb8ToLinear, linearToSrgb8, weigh, linearToXyz, xyzToLinear, labF, labFInv, xyzToLab, labToXyz, linearToLab, labToLinear, srgb8ToLab, clampedOf, inGamut, chromaOf, lchToLab, lchInGamut};
 ghost use Rattle.color.specs.Parts.{fromHex, toHex};
-ghost use Rattle.color.specs.Hue.{sideAt, changes, hueOf, hueSaid, hueSays, colorHueSays};
+ghost use Rattle.color.specs.Hue.{sideAt, changes, hueOf, hueSaid, hueSays, colorHues, huesSaid, huesSays, degreesBeside};
 ghost use Rattle.color.specs.Clip.{clippedOf};
 
 // Non-linear sRGB, 0 to 255 in each channel.
@@ -37,6 +37,20 @@ pub enum Hue {
     Degrees(f32),
     // refused by 9 for the directions, by 16 for a or b
     Refused(Refusal),
+}
+
+// Whether the hues of some colours are given.
+pub enum Hued {
+    // the degrees beside it are the hues
+    Given,
+    // refused by 9 for the directions, by 13 for a count above 32
+    Refused(Refusal),
+}
+
+// An answer with the degrees beside it, zeros after the last colour's, and all zero where it is refused.
+pub struct Hues {
+    pub answer: Hued,
+    pub degrees: [f32; 32],
 }
 
 // An 8-bit colour, and the chroma it ended at.
@@ -404,13 +418,39 @@ impl Lab {
     }
 }
 
-// The hue of an 8-bit colour in degrees, by 720 lent directions: every colour has one.
-pub fn srgb8_hue_deg(c: Srgb8, cos: &[f32], sin: &[f32]) -> Hue
-    ensures { λ r. ⌜ hueSaid r ≡ colorHueSays (now (cos .entry)) (now (sin .entry)) c ⌝ }
+// The hues of the first n colours, by directions that are 720 long.
+fn hues_of(n: usize, colors: [Srgb8; 32], cos: &[f32], sin: &[f32]) -> [f32; 32]
+    requires { ⌜ (n ≤ 32) × ((length (now cos) ≡ 720) × (length (now sin) ≡ 720)) ⌝ }
+    ensures { λ r. ⌜ r ≡ colorHues (now (cos .entry)) (now (sin .entry)) n colors ⌝ }
+{
+    let mut degrees = [0.0f32; 32];
+    let mut i: usize = 0;
+    while i < n {
+        let lab = srgb8_to_lab(colors[i]);
+        degrees[i] = hue_of(cos, sin, lab.a, lab.b);
+        i += 1;
+    }
+    degrees
+}
+
+// The hues in degrees of the first n of 32 colours, by 720 lent directions: every colour has one.
+pub fn srgb8_hues(n: usize, colors: [Srgb8; 32], cos: &[f32], sin: &[f32]) -> Hues
+    ensures { λ r. ⌜ (huesSaid (r .answer) (r .degrees) ≡ huesSays (now (cos .entry)) (now (sin .entry)) n colors) × (r .degrees ≡ degreesBeside (huesSays (now (cos .entry)) (now (sin .entry)) n colors)) ⌝ }
 {
     if limits::takes_directions(cos, sin) {
-        let lab = srgb8_to_lab(c);
-        return Hue::Degrees(hue_of(cos, sin, lab.a, lab.b));
+        if n <= 32 {
+            return Hues {
+                answer: Hued::Given,
+                degrees: hues_of(n, colors, cos, sin),
+            };
+        }
+        return Hues {
+            answer: Hued::Refused(Refusal::ColorCount),
+            degrees: [0.0f32; 32],
+        };
     }
-    Hue::Refused(Refusal::Directions)
+    Hues {
+        answer: Hued::Refused(Refusal::Directions),
+        degrees: [0.0f32; 32],
+    }
 }

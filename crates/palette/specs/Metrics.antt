@@ -8,7 +8,7 @@ use lib.ListN.{take, drop}
 use Rattle.limits.specs.Taken.{f32Of}
 use Rattle.color.specs.declared.Srgb8.{Srgb8}
 use Rattle.color.specs.Color.{srgb8ToLab, chromaOf}
-use Rattle.color.specs.Hue.{hueOf}
+use Rattle.color.specs.Hue.{colorHue}
 use Rattle.pair.specs.Rows.{lesser, greater}
 use Rattle.palette.specs.declared.Metrics.{Metrics}
 
@@ -38,10 +38,6 @@ lightnessOf c = srgb8ToLab c .l
 
 abbrev pub chromaIn : Srgb8 → Float
 chromaIn c = chromaOf (srgb8ToLab c)
-
--- "So every colour has a hue."
-unfoldable pub hueIn : List Float → List Float → Srgb8 → Float
-hueIn cs ss c = hueOf cs ss (srgb8ToLab c .a) (srgb8ToLab c .b)
 
 -- ---- the metrics
 -- the colours of the dark and of the light level
@@ -83,7 +79,7 @@ leastApart lo (h ∷ hs) = leastApart (leastFrom lo h hs) hs
 -- "For k = 1 the last two metrics are plus infinity"
 unfoldable pub separationOf : ℕ → List Srgb8 → List Float → List Float → Float
 separationOf k colors cs ss =
-    cond (leb 2 k) (leastApart (leastApart (inf false) (map (hueIn cs ss) (darks k colors))) (map (hueIn cs ss) (lights k colors))) (inf false)
+    cond (leb 2 k) (leastApart (leastApart (inf false) (map (colorHue cs ss) (darks k colors))) (map (colorHue cs ss) (lights k colors))) (inf false)
 
 unfoldable pub leastChroma : ℕ → List Srgb8 → Float
 leastChroma k colors = cond (leb 2 k) (least (least (inf false) (map chromaIn (darks k colors))) (map chromaIn (lights k colors))) (inf false)

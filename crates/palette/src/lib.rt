@@ -1,22 +1,21 @@
 // Palettes: derivation, validation and back-off. `derive` and `back_off` of xtask/src/palette.rs, `Palette::new` and `validate`
 // of crates/lcr-core/src/palette.rs, with lent directions.
-use color::Hue;
 use color::Srgb8;
 use gamut::Gamut;
 use limits::Refusal;
 use placement::Checked;
 ghost use mathlib.Core.Path.{_≡_};
-ghost use mathlib.Core.Bool.{true, false, cond};
+ghost use mathlib.Core.Bool.{true, false};
 ghost use Prim.Native.Nat.{_≤_};
-ghost use lib.Dec.{leb};
 ghost use lib.Ieee.{inf, binary32, sub};
 ghost use lib.ListN.{take, drop, replicate};
 ghost use Rattle.limits.specs.Answers.{value};
 ghost use Rattle.limits.specs.Taken.{chromaTaken, directionsTaken};
 ghost use Rattle.placement.specs.Placing.{checkSaid};
+ghost use Rattle.color.specs.Hue.{colorHue};
 ghost use Rattle.pair.specs.Rows.{greater};
 ghost use Rattle.palette.specs.Derivation.{huesTaken, designChecked, black, colorsOf, derivationSays, derivationSaid, colorsBeside};
-ghost use Rattle.palette.specs.Metrics.{highest, lowest, greatest, least, lightnessOf, chromaIn, hueIn, spreadIn, absolute, apart, leastFrom, leastApart, metricsOf};
+ghost use Rattle.palette.specs.Metrics.{highest, lowest, greatest, least, lightnessOf, chromaIn, spreadIn, absolute, apart, leastFrom, leastApart, metricsOf};
 ghost use Rattle.palette.specs.Validation.{findings, firstOf, validationSays, verdictSaid, validationSaid, findingNumber};
 ghost use Rattle.palette.specs.BackOff.{judgeAt, endOf, backOffSays, backOffSaid, colorsAfter};
 ghost use Rattle.palette.specs.Inner.{Ready, Measurable, Measured, Placed, colorAt};
@@ -330,69 +329,53 @@ fn spread_of(k: usize, l: [f32; 32]) -> f32
     dark
 }
 
-// The least distance of two hues of a level. One hue has none.
+// The least distance of two hues of a level, of more than one.
 fn separation_of(k: usize, h: [f32; 32]) -> f32
     requires { ⌜ k ≤ 16 ⌝ }
-    ensures { λ r. ⌜ r ≡ cond (leb 2 k) (leastApart (leastApart (inf false) (take k h)) (take k (drop k h))) (inf false) ⌝ }
+    ensures { λ r. ⌜ r ≡ leastApart (leastApart (inf false) (take k h)) (take k (drop k h)) ⌝ }
 {
-    let none = f32::from_bits(0x7f80_0000);
-    if k < 2 {
-        return none;
-    }
-    let dark = least_apart(none, &h[0..k]);
+    let dark = least_apart(f32::from_bits(0x7f80_0000), &h[0..k]);
     least_apart(dark, &h[k..k + k])
 }
 
-// The least chroma of more than one hue.
+// The least chroma of both levels.
 fn chroma_of(k: usize, c: [f32; 32]) -> f32
     requires { ⌜ k ≤ 16 ⌝ }
-    ensures { λ r. ⌜ r ≡ cond (leb 2 k) (least (least (inf false) (take k c)) (take k (drop k c))) (inf false) ⌝ }
+    ensures { λ r. ⌜ r ≡ least (least (inf false) (take k c)) (take k (drop k c)) ⌝ }
 {
-    let none = f32::from_bits(0x7f80_0000);
-    if k < 2 {
-        return none;
-    }
-    let dark = least(none, &c[0..k]);
+    let dark = least(f32::from_bits(0x7f80_0000), &c[0..k]);
     least(dark, &c[k..k + k])
 }
 
-// The hue of a colour, by directions that are taken.
-fn hue_in(c: Srgb8, cos: &[f32], sin: &[f32]) -> f32
-    requires { ⌜ directionsTaken (now cos) (now sin) ≡ true ⌝ }
-    ensures { λ r. ⌜ r ≡ hueIn (now (cos .entry)) (now (sin .entry)) c ⌝ }
+// The hues of the first n colours, by directions that are taken.
+fn hues_in(n: usize, colors: [Srgb8; 32], cos: &[f32], sin: &[f32]) -> [f32; 32]
+    requires { ⌜ (n ≤ 32) × (directionsTaken (now cos) (now sin) ≡ true) ⌝ }
+    ensures { λ r. ⌜ Measured (colorHue (now (cos .entry)) (now (sin .entry))) n colors r ⌝ }
 {
-    let hue = color::srgb8_hue_deg(c, cos, sin);
-    match hue {
-        Hue::Degrees(h) => h,
-        Hue::Refused(_) => 0.0,
-    }
+    color::srgb8_hues(n, colors, cos, sin).degrees
 }
 
-// Lightness, chroma and hue of colours, each in the place of its colour.
+// Lightness and chroma of colours, each in the place of its colour.
 struct Parts {
     l: [f32; 32],
     c: [f32; 32],
-    h: [f32; 32],
 }
 
 // Those of the first n colours.
-fn parts_of(n: usize, colors: [Srgb8; 32], cos: &[f32], sin: &[f32]) -> Parts
-    requires { ⌜ (n ≤ 32) × (directionsTaken (now cos) (now sin) ≡ true) ⌝ }
-    ensures { λ r. ⌜ Measured lightnessOf n colors (r .l) × (Measured chromaIn n colors (r .c) × Measured (hueIn (now (cos .entry)) (now (sin .entry))) n colors (r .h)) ⌝ }
+fn parts_of(n: usize, colors: [Srgb8; 32]) -> Parts
+    requires { ⌜ n ≤ 32 ⌝ }
+    ensures { λ r. ⌜ Measured lightnessOf n colors (r .l) × Measured chromaIn n colors (r .c) ⌝ }
 {
     let mut l = [0.0f32; 32];
     let mut c = [0.0f32; 32];
-    let mut h = [0.0f32; 32];
     let mut i: usize = 0;
     while i < n {
-        let color = colors[i];
-        let lab = color::srgb8_to_lab(color);
+        let lab = color::srgb8_to_lab(colors[i]);
         l[i] = lab.l;
         c[i] = lab.chroma();
-        h[i] = hue_in(color, cos, sin);
         i += 1;
     }
-    Parts { l, c, h }
+    Parts { l, c }
 }
 
 // The four metrics of 2k colours.
@@ -400,15 +383,26 @@ fn measure(k: usize, colors: [Srgb8; 32], cos: &[f32], sin: &[f32]) -> Metrics
     requires { ⌜ Measurable k (now cos) (now sin) ⌝ }
     ensures { λ r. ⌜ r ≡ metricsOf k colors (now (cos .entry)) (now (sin .entry)) ⌝ }
 {
-    let parts = parts_of(k + k, colors, cos, sin);
+    let parts = parts_of(k + k, colors);
     let l = parts.l;
     let c = parts.c;
-    let h = parts.h;
+    let gap = gap_of(k, l);
+    let spread = spread_of(k, l);
+    if k < 2 {
+        return Metrics {
+            gap,
+            spread,
+            separation: f32::from_bits(0x7f80_0000),
+            chroma: f32::from_bits(0x7f80_0000),
+        };
+    }
+    let separation = separation_of(k, hues_in(k + k, colors, cos, sin));
+    let chroma = chroma_of(k, c);
     Metrics {
-        gap: gap_of(k, l),
-        spread: spread_of(k, l),
-        separation: separation_of(k, h),
-        chroma: chroma_of(k, c),
+        gap,
+        spread,
+        separation,
+        chroma,
     }
 }
 

@@ -1,19 +1,14 @@
 -- `palette::chroma_of` meets its contract. Assumes nothing.
-use lib.Ieee.{ofBits, nanBits}
+use lib.Ieee.{nanBits}
 use borrow.Author.Needs.{needs}
-use borrow.Author.Tests.{lt-leb}
 use Rattle.palette.specs.Metrics.{least}
 use Rattle.palette.proofs.Lent.{both-levels}
 use Rattle.palette.proofs.chroma_of.Statement.{statement}
 use Rattle.palette.proofs.chroma_of.Tie as tie
 
-float-from-bits-none : tie.Need-float-from-bits-none
+float-from-bits-least : tie.Need-float-from-bits-least
 unfolding nanBits
-float-from-bits-none c = tt
-
-returns : tie.Need-returns
-unfolding ofBits
-returns c = rw (lt-leb 2 _ (c .if1 .taken))
+float-from-bits-least c = tt
 
 sub-least : tie.Need-sub-least
 sub-least c = search needs
@@ -45,13 +40,12 @@ part-least-end-2 c = search needs
 least-requires-2 : tie.Need-least-requires-2
 least-requires-2 c κs = search needs
 
-returns-2 : tie.Need-returns-2
-returns-2 c =
-    let s = c .before .before .before .before .before .before in
-    let a = s .before .args in
+returns : tie.Need-returns
+returns c =
     let f = c .before .before .before in
-    both-levels least (a .k) (a .t2) (f .least .result) (c .least2 .result) (s .if1 .left) (f .least .ensures) (c .least2 .ensures)
+    let a = f .before .before .before .args in
+    both-levels least (a .k) (a .t2) (f .least .result) (c .least2 .result) (f .least .ensures) (c .least2 .ensures)
 
 pub chroma-of-spec : {M : Type 1} → statement M
 chroma-of-spec =
-    tie.close (tie.spec float-from-bits-none returns sub-least part-least-start part-least-end least-requires add-least mul-least sub-least-2 part-least-start-2 part-least-end-2 least-requires-2 returns-2)
+    tie.close (tie.spec float-from-bits-least sub-least part-least-start part-least-end least-requires add-least mul-least sub-least-2 part-least-start-2 part-least-end-2 least-requires-2 returns)

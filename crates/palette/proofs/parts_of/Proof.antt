@@ -1,4 +1,4 @@
--- `palette::parts_of` meets its contract. Assumes nothing.
+-- `palette::parts_of` meets its contract. The invariant: both arrays are filled below i. Assumes nothing.
 use mathlib.Core.Path.{_≡_, refl, ap, _∙_}
 use Prim.Native.Nat.{ℕ, _-_, _≤_, _<_}
 use native.Mathlib.Omega.{arith}
@@ -6,27 +6,26 @@ use lib.ListN.{length, length-set}
 use borrow.Author.Count.{below-none}
 use Rattle.color.specs.declared.Lab.{Lab}
 use Rattle.color.specs.Color.{chromaOf}
-use Rattle.palette.specs.Metrics.{lightnessOf, chromaIn, hueIn}
+use Rattle.palette.specs.Metrics.{lightnessOf, chromaIn}
 use Rattle.palette.specs.Inner.{Filled}
 use Rattle.palette.proofs.Filling.{filled-next}
 use Rattle.palette.proofs.parts_of.Statement.{statement}
 use Rattle.palette.proofs.parts_of.Tie as tie
 
 abbrev Inv-loop : tie.InvT-loop
-Inv-loop n cos sin colors l₀ c₀ h₀ i₀ l c h i =
-    (i ≤ n) × ((length l ≡ 32) × (length c ≡ 32) × (length h ≡ 32)) × (Filled lightnessOf i colors l × (Filled chromaIn i colors c × Filled (hueIn cos sin) i colors h))
+Inv-loop n colors l₀ c₀ i₀ l c i = (i ≤ n) × ((length l ≡ 32) × (length c ≡ 32)) × (Filled lightnessOf i colors l × Filled chromaIn i colors c)
 
 abbrev μ-loop : tie.MeasureT-loop
-μ-loop n cos sin colors l₀ c₀ h₀ i₀ l c h i = n - i
+μ-loop n colors l₀ c₀ i₀ l c i = n - i
 
 loop-holds : tie.Need-loop-holds Inv-loop μ-loop
-loop-holds c = (omega arith, (refl, refl, refl), (below-none _, (below-none _, below-none _)))
+loop-holds c = (omega arith, (refl, refl), (below-none _, below-none _))
 
-mul-color : tie.Need-mul-color Inv-loop μ-loop
-mul-color c = omega arith
+mul-srgb8-to-lab : tie.Need-mul-srgb8-to-lab Inv-loop μ-loop
+mul-srgb8-to-lab c = omega arith
 
-array-copy-out-color : tie.Need-array-copy-out-color Inv-loop μ-loop
-array-copy-out-color c = omega arith
+array-copy-out-srgb8-to-lab : tie.Need-array-copy-out-srgb8-to-lab Inv-loop μ-loop
+array-copy-out-srgb8-to-lab c = omega arith
 
 srgb8-to-lab-requires : tie.Need-srgb8-to-lab-requires Inv-loop μ-loop
 srgb8-to-lab-requires c κs = tt
@@ -46,15 +45,6 @@ mul-c c = omega arith
 array-write-c : tie.Need-array-write-c Inv-loop μ-loop
 array-write-c c = omega arith
 
-hue-in-requires : tie.Need-hue-in-requires Inv-loop μ-loop
-hue-in-requires c κs = c .before .before .before .before .before .before .before .pre .1
-
-mul-h : tie.Need-mul-h Inv-loop μ-loop
-mul-h c = omega arith
-
-array-write-h : tie.Need-array-write-h Inv-loop μ-loop
-array-write-h c = omega arith
-
 add-i : tie.Need-add-i Inv-loop μ-loop
 add-i c = omega arith
 
@@ -63,41 +53,47 @@ loop-less c = omega arith
 
 loop-again : tie.Need-loop-again Inv-loop μ-loop
 loop-again c =
-    let l = c .before .before .before .before .before in
-    let s = l .before .before .before in
-    let colors = s .args .t2 in
+    let l = c .before .before .before .before in
+    let colors = l .before .args .t2 in
     let i = l .loop .i in
-    let lab = c .before .before .srgb8-to-lab in
+    let lab = c .before .srgb8-to-lab in
     let n = l .loop .inv .1 in
     let g = l .loop .inv .2 in (
       omega arith,
-      (length-set (l .loop .l) i _ ∙ n .0, length-set (l .loop .c) i _ ∙ n .1, length-set (l .loop .h) i _ ∙ n .2),
+      (length-set (l .loop .l) i _ ∙ n .0, length-set (l .loop .c) i _ ∙ n .1),
       (
         filled-next lightnessOf colors (l .loop .l) i (lab .result .l) (omega arith) (g .0) (ap (λ (x : Lab). x .l) (lab .ensures)),
-        (
-          filled-next chromaIn colors (l .loop .c) i (c .before .chroma .result) (omega arith) (g .1 .0) (c .before .chroma .ensures ∙ ap chromaOf (lab .ensures)),
-          filled-next (hueIn (s .args .cos .now) (s .args .sin .now)) colors (l .loop .h) i (c .hue-in .result) (omega arith) (g .1 .1) (c .hue-in .ensures),
-        ),
+        filled-next chromaIn colors (l .loop .c) i (c .chroma .result) (omega arith) (g .1) (c .chroma .ensures ∙ ap chromaOf (lab .ensures)),
       ),
     )
 
 returns : tie.Need-returns Inv-loop μ-loop
 returns c =
     let l = c .before in
-    let s = l .before .before .before in
-    let colors = s .args .t2 in
-    let few = s .pre .0 in
+    let s = l .before in
+    let few = s .pre in
     let long = l .loop .inv .1 in
     let g = l .loop .inv .2 in
     let h = c .loop-test .left in
-    let wide : s .args .n ≤ length colors = omega arith in (
-      record { filled = λ (p : ℕ) (u : p < s .args .n). g .0 p (omega arith); long = omega arith; wide = wide },
-      (
-        record { filled = λ (p : ℕ) (u : p < s .args .n). g .1 .0 p (omega arith); long = omega arith; wide = wide },
-        record { filled = λ (p : ℕ) (u : p < s .args .n). g .1 .1 p (omega arith); long = omega arith; wide = wide },
-      ),
-    )
+    let wide : s .args .n ≤ length (s .args .t2) = omega arith in
+    (record { filled = λ (p : ℕ) (u : p < s .args .n). g .0 p (omega arith); long = omega arith; wide = wide }, record { filled = λ (p : ℕ) (u : p < s .args .n). g .1 p (omega arith); long = omega arith; wide = wide })
 
 pub parts-of-spec : {M : Type 1} → statement M
 parts-of-spec =
-    tie.close (tie.spec Inv-loop μ-loop loop-holds mul-color array-copy-out-color srgb8-to-lab-requires mul-l array-write-l chroma-requires mul-c array-write-c hue-in-requires mul-h array-write-h add-i loop-less loop-again returns)
+    tie.close
+    (tie.spec
+    Inv-loop
+    μ-loop
+    loop-holds
+    mul-srgb8-to-lab
+    array-copy-out-srgb8-to-lab
+    srgb8-to-lab-requires
+    mul-l
+    array-write-l
+    chroma-requires
+    mul-c
+    array-write-c
+    add-i
+    loop-less
+    loop-again
+    returns)

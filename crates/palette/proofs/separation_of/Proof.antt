@@ -1,19 +1,14 @@
 -- `palette::separation_of` meets its contract. Assumes nothing.
-use lib.Ieee.{ofBits, nanBits}
+use lib.Ieee.{nanBits}
 use borrow.Author.Needs.{needs}
-use borrow.Author.Tests.{lt-leb}
 use Rattle.palette.specs.Metrics.{leastApart}
 use Rattle.palette.proofs.Lent.{both-levels}
 use Rattle.palette.proofs.separation_of.Statement.{statement}
 use Rattle.palette.proofs.separation_of.Tie as tie
 
-float-from-bits-none : tie.Need-float-from-bits-none
+float-from-bits-least-apart : tie.Need-float-from-bits-least-apart
 unfolding nanBits
-float-from-bits-none c = tt
-
-returns : tie.Need-returns
-unfolding ofBits
-returns c = rw (lt-leb 2 _ (c .if1 .taken))
+float-from-bits-least-apart c = tt
 
 sub-least-apart : tie.Need-sub-least-apart
 sub-least-apart c = search needs
@@ -45,13 +40,12 @@ part-least-apart-end-2 c = search needs
 least-apart-requires-2 : tie.Need-least-apart-requires-2
 least-apart-requires-2 c κs = search needs
 
-returns-2 : tie.Need-returns-2
-returns-2 c =
-    let s = c .before .before .before .before .before .before in
-    let a = s .before .args in
+returns : tie.Need-returns
+returns c =
     let f = c .before .before .before in
-    both-levels leastApart (a .k) (a .t2) (f .least-apart .result) (c .least-apart2 .result) (s .if1 .left) (f .least-apart .ensures) (c .least-apart2 .ensures)
+    let a = f .before .before .before .args in
+    both-levels leastApart (a .k) (a .t2) (f .least-apart .result) (c .least-apart2 .result) (f .least-apart .ensures) (c .least-apart2 .ensures)
 
 pub separation-of-spec : {M : Type 1} → statement M
 separation-of-spec =
-    tie.close (tie.spec float-from-bits-none returns sub-least-apart part-least-apart-start part-least-apart-end least-apart-requires add-least-apart mul-least-apart sub-least-apart-2 part-least-apart-start-2 part-least-apart-end-2 least-apart-requires-2 returns-2)
+    tie.close (tie.spec float-from-bits-least-apart sub-least-apart part-least-apart-start part-least-apart-end least-apart-requires add-least-apart mul-least-apart sub-least-apart-2 part-least-apart-start-2 part-least-apart-end-2 least-apart-requires-2 returns)
