@@ -1,5 +1,7 @@
 // A list of cases, read from standard input line by line, and what came of it: how many lines of each operation there
 // are, and which lines differ.
+pub mod run;
+
 use cases::Found;
 use cases::Line;
 ghost use mathlib.Core.Path.{_≡_};

@@ -23,6 +23,17 @@ pub fn with_pair(digest: u64, pair: u16) -> u64 {
     )
 }
 
+// With sixteen hues.
+pub fn with_hues(digest: u64, hues: [u16; 16]) -> u64 {
+    let mut to = digest;
+    let mut i = 0;
+    while i < 16 {
+        to = with_pair(to, hues[i]);
+        i += 1;
+    }
+    to
+}
+
 // With the four bytes of a pattern, the lowest first.
 pub fn with_pattern(digest: u64, bits: u32) -> u64 {
     let first = with_byte(digest, bits % 0x100);

@@ -1,4 +1,4 @@
-// The lines that set directions, and those by which the next case is lent others.
+// The lines that set directions, and those by which the next case is lent others, or a row of another length.
 
 // What the next case is lent, by the lines that wait for it.
 pub struct Lent {
@@ -11,6 +11,9 @@ pub struct Lent {
     pub which: u32,
     pub place: usize,
     pub component: f32,
+    // whether a `size` waits, and how many entries the row has
+    pub sized: bool,
+    pub entries: usize,
 }
 
 // Sets a direction, and says whether there is such a one.
@@ -35,7 +38,7 @@ fn exchanged(components: &mut [f32; 720], place: usize, component: f32) -> f32 {
 }
 
 impl Lent {
-    // Every direction, where nothing waits.
+    // Every direction and a row of as many entries, where nothing waits.
     pub fn all() -> Lent {
         Lent {
             cut: false,
@@ -45,12 +48,14 @@ impl Lent {
             which: 0,
             place: 0,
             component: 0.0,
+            sized: false,
+            entries: 720,
         }
     }
 
     // Whether a line waits.
     pub fn waits(self) -> bool {
-        self.cut || self.replaced
+        self.cut || self.replaced || self.sized
     }
 
     // Whether a `bad` with these words may come.
@@ -67,9 +72,9 @@ impl Lent {
         self
     }
 
-    // Whether a `len` with these words may come.
-    pub fn takes_len(self, words: [u32; 24]) -> bool {
-        !self.cut && words[0] <= 720 && words[1] <= 720
+    // Whether a `len` with these words may come, where a case can be lent so many at most.
+    pub fn takes_len(self, words: [u32; 24], most: u32) -> bool {
+        !self.cut && words[0] <= most && words[1] <= most
     }
 
     // With only the first cosines and sines for the next case.
@@ -77,6 +82,18 @@ impl Lent {
         self.cut = true;
         self.cosines = crate::size_of(words[0]);
         self.sines = crate::size_of(words[1]);
+        self
+    }
+
+    // Whether a `size` with these words may come, where a row can have so many entries at most.
+    pub fn takes_size(self, words: [u32; 24], most: u32) -> bool {
+        !self.sized && words[0] <= most
+    }
+
+    // With a row of another length for the next case.
+    pub fn with_size(mut self, words: [u32; 24]) -> Lent {
+        self.sized = true;
+        self.entries = crate::size_of(words[0]);
         self
     }
 

@@ -1,4 +1,4 @@
-// Sixteen hues, held to the last words of a line.
+// Sixteen hues, said by the last words of a line or held to them.
 
 // The hue that the words from one of them on say for a place, 0 after the last.
 pub fn said(words: [u32; 24], from: usize, count: usize, place: usize) -> u32 {
@@ -9,6 +9,22 @@ pub fn said(words: [u32; 24], from: usize, count: usize, place: usize) -> u32 {
         }
     }
     0
+}
+
+// A word as a hue.
+fn hue_of(word: u32) -> u16 {
+    (word % 0x1_0000) as u16
+}
+
+// Sixteen hues by the words from one of them on, 0 after the last.
+pub fn all_said(words: [u32; 24], from: usize, count: usize) -> [u16; 16] {
+    let mut given = [0u16; 16];
+    let mut i = 0;
+    while i < 16 {
+        given[i] = hue_of(said(words, from, count, i));
+        i += 1;
+    }
+    given
 }
 
 // Whether a hue is the one that is expected.

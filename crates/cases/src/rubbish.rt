@@ -7,6 +7,11 @@ pub fn stirred(seed: u32) -> u32 {
     second ^ second << 5
 }
 
+// The seed for the line with this number, which is another for each line.
+pub fn seed_of(number: u64) -> u32 {
+    stirred((number % 0x1_0000_0000) as u32)
+}
+
 // The number that a seed gives: half of them could be indices of a ring of 720, and half are any.
 fn number_of(seed: u32) -> u16 {
     if seed < 0x8000_0000 {

@@ -17,7 +17,7 @@ fn linear_of(words: [u32; 24]) -> Linear {
 }
 
 // The first three words as a Lab colour.
-fn lab_of(words: [u32; 24]) -> Lab {
+pub fn lab_of(words: [u32; 24]) -> Lab {
     Lab {
         l: float_of(words[0]),
         a: float_of(words[1]),

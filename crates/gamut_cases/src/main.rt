@@ -6,9 +6,8 @@ mod compare;
 mod digest;
 mod operations;
 mod rows;
-mod run;
 
-use run::Run;
+use case_lines::run::Run;
 
 // Takes a case. Its operation must be known and have its number of words.
 fn take_case(run: Run, cos: &mut [f32; 720], sin: &mut [f32; 720]) -> Run {
@@ -18,12 +17,16 @@ fn take_case(run: Run, cos: &mut [f32; 720], sin: &mut [f32; 720]) -> Run {
     if !operations::takes(place, line.count) {
         return run.unless(false, b" malformed");
     }
-    let next = run.counting(place);
-    if rows::has(operation) {
-        return rows::take(next, cos, sin);
-    }
+    let next = run.counting(place, operations::FIRST_CASE);
     let words = line.words;
-    next.unless(compare::agrees(operation, words, cos, sin), b"")
+    match operation {
+        operations::DIR => next.with_dir(cos, sin),
+        operations::BAD => next.with_bad(),
+        operations::LEN => next.with_len(720),
+        operations::SIZE => next.with_size(800),
+        operations::ROW => rows::take_row(next, cos, sin),
+        _ => next.unless(compare::agrees(operation, words, cos, sin), b""),
+    }
 }
 
 // Reads the list to its end. A proved loop ends, so it counts turns down.
@@ -50,5 +53,5 @@ fn main() {
     let mut buffer = io::large_buffer();
     let run = take_all(&mut cos, &mut sin, &mut buffer);
     let names = operations::NAMES;
-    run.finished().report(&names);
+    run.finished(b", and a row is missing").report(&names);
 }

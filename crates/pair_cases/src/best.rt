@@ -75,11 +75,6 @@ fn is_whole(words: [u32; 24], count: usize) -> bool {
     count == 5
 }
 
-// What the rubbish of the work buffer is made from, which is another for each line.
-fn seed_of(number: u64) -> u32 {
-    rubbish::stirred((number % 0x1_0000_0000) as u32)
-}
-
 // Whether the best of a pair is what the words of the line with this number say.
 pub fn agrees(
     number: u64,
@@ -88,5 +83,6 @@ pub fn agrees(
     rows: &[f32],
     lengths: &[usize; 2],
 ) -> bool {
-    is_whole(words, count) && same_in(words, count, seed_of(number), rows, lengths[0], lengths[1])
+    let seed = rubbish::seed_of(number);
+    is_whole(words, count) && same_in(words, count, seed, rows, lengths[0], lengths[1])
 }

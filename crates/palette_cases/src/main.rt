@@ -6,15 +6,15 @@ mod calls;
 mod colors;
 mod lines;
 mod operations;
-mod run;
 
-use run::Run;
+use case_lines::run::Run;
 
 // Takes a line. Its operation must be known and have a number of words that it may have.
 fn take_line(
     run: Run,
     cos: &mut [f32; 720],
     sin: &mut [f32; 720],
+    design: &mut [u32; 24],
     expected: &mut [u32; 32],
 ) -> Run {
     let line = run.line();
@@ -22,13 +22,15 @@ fn take_line(
     if !operations::takes(place, line.count) {
         return run.unless(false, b" malformed");
     }
-    lines::take(run.counting(place), cos, sin, expected)
+    let next = run.counting(place, operations::FIRST_CASE);
+    lines::take(next, cos, sin, design, expected)
 }
 
 // Reads the list to its end. A proved loop ends, so it counts turns down.
 fn take_all(
     cos: &mut [f32; 720],
     sin: &mut [f32; 720],
+    design: &mut [u32; 24],
     expected: &mut [u32; 32],
     buffer: &mut [u8],
 ) -> Run {
@@ -40,7 +42,7 @@ fn take_all(
             return run;
         }
         if run.has_case() {
-            run = take_line(run, cos, sin, expected);
+            run = take_line(run, cos, sin, design, expected);
         }
         turns -= 1;
     }
@@ -51,9 +53,10 @@ fn take_all(
 fn main() {
     let mut cos = [0.0f32; 720];
     let mut sin = [0.0f32; 720];
+    let mut design = [0u32; 24];
     let mut expected = [0u32; 32];
     let mut buffer = io::large_buffer();
-    let run = take_all(&mut cos, &mut sin, &mut expected, &mut buffer);
+    let run = take_all(&mut cos, &mut sin, &mut design, &mut expected, &mut buffer);
     let names = operations::NAMES;
-    run.finished().report(&names);
+    run.finished(b", and a case is missing").report(&names);
 }

@@ -6,51 +6,70 @@
 mod operations;
 mod places;
 mod rings;
-mod run;
 mod sweeps;
 
-use run::Run;
+use case_lines::Replay;
+use cases::rubbish;
+
+// Takes a placement, on a ring of this length.
+fn take_place(replay: Replay, seed: u32, ring: &[f32], length: usize) -> Replay {
+    let line = replay.line;
+    let words = line.words;
+    let count = line.count;
+    if places::is_whole(words, count) {
+        return replay.unless(places::same_in(words, count, seed, ring, length), b"");
+    }
+    replay.unless(false, b" malformed")
+}
 
 // Takes a case. Its operation must be known and have a number of words that it may have.
-fn take_case(run: Run, ring: &mut [f32; 800]) -> Run {
-    let line = run.line();
+fn take_case(replay: Replay, ring: &mut [f32; 800], lengths: &mut [usize; 1]) -> Replay {
+    let line = replay.line;
     let operation = line.operation;
+    let count = line.count;
     let place = operations::place_of(operation);
-    if !operations::takes(place, line.count) {
-        return run.unless(false, b" malformed");
+    if !operations::takes(place, count) {
+        return replay.unless(false, b" malformed");
     }
-    let next = run.counting(place);
+    let next = replay.counting(place, operations::FIRST_CASE);
+    let words = line.words;
+    let seed = rubbish::seed_of(line.number);
+    let length = lengths[0];
     match operation {
-        operations::RING => rings::take_ring(next, ring),
-        operations::MORE => rings::take_more(next, ring),
-        operations::STEP => places::take_step(next),
-        operations::PLACE => places::take_place(next, ring),
-        _ => sweeps::take_sweep(next, ring),
+        operations::RING => next.unless(
+            rings::set_ring(words, count, ring, lengths),
+            b" malformed",
+        ),
+        operations::MORE => next.unless(rings::set_more(words, count, ring, length), b" malformed"),
+        operations::STEP => next.unless(places::same_step(words), b""),
+        operations::PLACE => take_place(next, seed, ring, length),
+        _ => next.unless(sweeps::agrees(words, count, seed, ring, length), b""),
     }
 }
 
 // Reads the list to its end. A proved loop ends, so it counts turns down.
-fn take_all(ring: &mut [f32; 800], buffer: &mut [u8]) -> Run {
-    let mut run = Run::new();
+fn take_all(ring: &mut [f32; 800], lengths: &mut [usize; 1], buffer: &mut [u8]) -> Replay {
+    let mut replay = Replay::new();
     let mut turns = case_lines::TURNS;
     while turns > 0 {
-        run = run.turned(buffer);
-        if run.done() {
-            return run;
+        replay = replay.turned(buffer);
+        if !replay.more {
+            return replay;
         }
-        if run.has_case() {
-            run = take_case(run, ring);
+        if replay.case {
+            replay = take_case(replay, ring, lengths);
         }
         turns -= 1;
     }
-    run
+    replay
 }
 
 // Replays the list and says what came of it.
 fn main() {
     let mut ring = [0.0f32; 800];
+    let mut lengths = [0usize; 1];
     let mut buffer = io::large_buffer();
-    let run = take_all(&mut ring, &mut buffer);
+    let replay = take_all(&mut ring, &mut lengths, &mut buffer);
     let names = operations::NAMES;
-    run.finished().report(&names);
+    replay.finished(false, b"").report(&names);
 }

@@ -1,23 +1,15 @@
 // Steps and placements, each held to the words after its inputs.
-use crate::run::Run;
 use cases::hues;
 use cases::rubbish;
 use placement::Answer;
 use placement::Stepping;
 
 // Whether the step for a hue count is the one that is expected, or is refused with the number that is.
-fn same_step(words: [u32; 24]) -> bool {
+pub fn same_step(words: [u32; 24]) -> bool {
     match placement::step_for(cases::size_of(words[0])) {
         Stepping::Is(step) => words[1] == 0 && step == cases::size_of(words[2]),
         Stepping::Declined(why) => words[1] == why.number() as u32 && words[2] == 0,
     }
-}
-
-// Takes a step.
-pub fn take_step(run: Run) -> Run {
-    let line = run.line();
-    let words = line.words;
-    run.unless(same_step(words), b"")
 }
 
 // Whether an answer is of the kind that the words say.
@@ -56,7 +48,7 @@ fn same_place(words: [u32; 24], count: usize, seed: u32, m: &[f32], work: &mut [
 }
 
 // Whether it is in a work buffer of the length that the words say, on a ring of this length.
-fn same_in(words: [u32; 24], count: usize, seed: u32, ring: &[f32], length: usize) -> bool {
+pub fn same_in(words: [u32; 24], count: usize, seed: u32, ring: &[f32], length: usize) -> bool {
     let mut work = [0u16; 2400];
     let room = cases::size_of(words[3]);
     if length <= ring.len() {
@@ -68,22 +60,14 @@ fn same_in(words: [u32; 24], count: usize, seed: u32, ring: &[f32], length: usiz
     false
 }
 
-// Whether a placement has as many hues as it may: none, or k where it is not refused.
-fn is_whole(words: [u32; 24], count: usize) -> bool {
+// Whether a placement has a work buffer that there is room for, and as many hues as it may: none, or k where it is not
+// refused.
+pub fn is_whole(words: [u32; 24], count: usize) -> bool {
+    if 2400 < words[3] {
+        return false;
+    }
     if 5 < count {
         return words[4] == 0 && count - 5 == cases::size_of(words[0]);
     }
     count == 5
-}
-
-// Takes a placement.
-pub fn take_place(run: Run, ring: &[f32]) -> Run {
-    let line = run.line();
-    let words = line.words;
-    let count = line.count;
-    if is_whole(words, count) && words[3] <= 2400 {
-        let same = same_in(words, count, run.seed, ring, run.length);
-        return run.stirred().unless(same, b"");
-    }
-    run.unless(false, b" malformed")
 }

@@ -3,7 +3,6 @@
 // none, 255 for a placement, the number of a refusal, or 254 for one that left its work buffer changed. Sixteen hues
 // follow, two bytes each, the low one first.
 use crate::places;
-use crate::run::Run;
 use cases::digest;
 use cases::rubbish;
 use placement::Answer;
@@ -23,17 +22,6 @@ fn byte_of(answer: Answer) -> u32 {
     }
 }
 
-// With sixteen hues.
-fn with_hues(sum: u64, hues: [u16; 16]) -> u64 {
-    let mut to = sum;
-    let mut i = 0;
-    while i < 16 {
-        to = digest::with_pair(to, hues[i]);
-        i += 1;
-    }
-    to
-}
-
 // With one placement.
 fn with_place(sum: Sum, m: &[f32], c: f32, k: usize, step: usize, work: &mut [u16]) -> Sum {
     let seed = sum.seed;
@@ -48,7 +36,7 @@ fn with_place(sum: Sum, m: &[f32], c: f32, k: usize, step: usize, work: &mut [u1
         }
     }
     Sum {
-        digest: with_hues(digest::with_byte(sum.digest, byte), hues),
+        digest: digest::with_hues(digest::with_byte(sum.digest, byte), hues),
         seed: rubbish::stirred(seed),
     }
 }
@@ -130,15 +118,12 @@ fn swept(sum: Sum, ring: &[f32], length: usize, words: [u32; 24], count: usize) 
     sum
 }
 
-// Takes a sweep.
-pub fn take_sweep(mut run: Run, ring: &[f32]) -> Run {
-    let line = run.line();
-    let words = line.words;
+// Whether a sweep on a ring of this length gives the digest that is expected.
+pub fn agrees(words: [u32; 24], count: usize, seed: u32, ring: &[f32], length: usize) -> bool {
     let none = Sum {
         digest: digest::START,
-        seed: run.seed,
+        seed,
     };
-    let sum = swept(none, ring, run.length, words, line.count);
-    run.seed = sum.seed;
-    run.unless(sum.digest == digest::said(words[0], words[1]), b"")
+    let sum = swept(none, ring, length, words, count);
+    sum.digest == digest::said(words[0], words[1])
 }

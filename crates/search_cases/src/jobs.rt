@@ -69,17 +69,6 @@ fn with_found(sum: u64, best: Best) -> u64 {
     }
 }
 
-// A digest with sixteen hues.
-fn with_hues(sum: u64, hues: [u16; 16]) -> u64 {
-    let mut next = sum;
-    let mut i = 0;
-    while i < 16 {
-        next = digest::with_pair(next, hues[i]);
-        i += 1;
-    }
-    next
-}
-
 // A digest with a job: its hue count, gap, levels and position, its best, and its hues.
 pub fn digested(sum: u64, job: Job) -> u64 {
     let settings = job.settings;
@@ -90,23 +79,7 @@ pub fn digested(sum: u64, job: Job) -> u64 {
         cases::pattern_of(settings.gap),
     );
     let second = with_number(with_number(first, job.levels), job.position);
-    with_hues(with_found(second, best), hues)
-}
-
-// A word as a hue.
-fn hue_of(word: u32) -> u16 {
-    (word % 0x1_0000) as u16
-}
-
-// Sixteen hues by the words from one of them on, 0 after the last.
-fn hues_said(words: [u32; 24], from: usize, count: usize) -> [u16; 16] {
-    let mut given = [0u16; 16];
-    let mut i = 0;
-    while i < 16 {
-        given[i] = hue_of(hues::said(words, from, count, i));
-        i += 1;
-    }
-    given
+    digest::with_hues(with_found(second, best), hues)
 }
 
 // A best by three words from one of them on, or none where they are missing.
@@ -145,7 +118,7 @@ pub fn after(
         return lent;
     }
     let best = best_said(words, from, count);
-    let hues = hues_said(words, std::num::wrapping_add_usize(from, 3), count);
+    let hues = hues::all_said(words, std::num::wrapping_add_usize(from, 3), count);
     Job {
         settings,
         levels,
@@ -158,7 +131,7 @@ pub fn after(
 // A job by the words of its line, with none so far.
 fn said(words: [u32; 24], count: usize) -> Job {
     let settings = settings_said(words[0], words[1]);
-    let hues = hues_said(words, 4, count);
+    let hues = hues::all_said(words, 4, count);
     Job {
         settings,
         levels: cases::size_of(words[2]),

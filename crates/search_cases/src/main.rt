@@ -99,11 +99,6 @@ fn called(
     Taken { same: false, job }
 }
 
-// What the rubbish of the work buffer is made from, which is another for each line.
-fn seed_of(number: u64) -> u32 {
-    rubbish::stirred((number % 0x1_0000_0000) as u32)
-}
-
 // What comes of a line whose operation stands at a place, or at no place where a list may not have the line.
 fn take_line(
     line: Line,
@@ -128,7 +123,7 @@ fn take_line(
         };
     }
     if place < operations::COUNT {
-        let seed = seed_of(line.number);
+        let seed = rubbish::seed_of(line.number);
         return called(operation, words, count, seed, entries, lengths[0], job);
     }
     Taken { same: false, job }

@@ -7,10 +7,10 @@ use Rattle.palette_cases.proofs.take_all.Statement.{statement}
 use Rattle.palette_cases.proofs.take_all.Tie as tie
 
 abbrev Inv-loop : tie.InvT-loop
-Inv-loop cos₀ sin₀ expected₀ buffer₀ run₀ turns₀ cos sin expected buffer run turns = length buffer ≡ length buffer₀
+Inv-loop cos₀ sin₀ design₀ expected₀ buffer₀ run₀ turns₀ cos sin design expected buffer run turns = length buffer ≡ length buffer₀
 
 abbrev μ-loop : tie.MeasureT-loop
-μ-loop cos₀ sin₀ expected₀ buffer₀ run₀ turns₀ cos sin expected buffer run turns = turns
+μ-loop cos₀ sin₀ design₀ expected₀ buffer₀ run₀ turns₀ cos sin design expected buffer run turns = turns
 
 new-requires : tie.Need-new-requires Inv-loop μ-loop
 new-requires c κs = search needs

@@ -7,10 +7,10 @@ use Rattle.placement_cases.proofs.take_all.Statement.{statement}
 use Rattle.placement_cases.proofs.take_all.Tie as tie
 
 abbrev Inv-loop : tie.InvT-loop
-Inv-loop ring₀ buffer₀ run₀ turns₀ ring buffer run turns = length buffer ≡ length buffer₀
+Inv-loop ring₀ lengths₀ buffer₀ replay₀ turns₀ ring lengths buffer replay turns = length buffer ≡ length buffer₀
 
 abbrev μ-loop : tie.MeasureT-loop
-μ-loop ring₀ buffer₀ run₀ turns₀ ring buffer run turns = turns
+μ-loop ring₀ lengths₀ buffer₀ replay₀ turns₀ ring lengths buffer replay turns = turns
 
 new-requires : tie.Need-new-requires Inv-loop μ-loop
 new-requires c κs = search needs
@@ -21,17 +21,11 @@ loop-holds c = refl
 turned-requires : tie.Need-turned-requires Inv-loop μ-loop
 turned-requires c κs = search needs
 
-done-requires : tie.Need-done-requires Inv-loop μ-loop
-done-requires c κs = search needs
-
 same-length : tie.Need-same-length Inv-loop μ-loop
 same-length c = omega arith
 
 returns : tie.Need-returns Inv-loop μ-loop
 returns c = tt
-
-has-case-requires : tie.Need-has-case-requires Inv-loop μ-loop
-has-case-requires c κs = search needs
 
 take-case-requires : tie.Need-take-case-requires Inv-loop μ-loop
 take-case-requires c κs = search needs
@@ -53,4 +47,4 @@ returns-2 c = tt
 
 pub take-all-spec : {M : Type 1} → statement M
 take-all-spec =
-    tie.close (tie.spec Inv-loop μ-loop new-requires loop-holds turned-requires done-requires same-length returns has-case-requires take-case-requires sub-turns loop-less loop-again same-length-2 returns-2)
+    tie.close (tie.spec Inv-loop μ-loop new-requires loop-holds turned-requires same-length returns take-case-requires sub-turns loop-less loop-again same-length-2 returns-2)

@@ -1,15 +1,15 @@
--- `placement_cases::sweeps::with_hues` is safe and ends: it goes over the sixteen hues. Assumes nothing.
+-- `cases::digest::with_hues` is safe and ends: it goes over the sixteen hues. Assumes nothing.
 use Prim.Native.Nat.{_≤_, _-_}
 use native.Mathlib.Omega.{arith}
 use borrow.Author.Needs.{needs}
-use Rattle.placement_cases.proofs.sweeps.with_hues.Statement.{statement}
-use Rattle.placement_cases.proofs.sweeps.with_hues.Tie as tie
+use Rattle.cases.proofs.digest.with_hues.Statement.{statement}
+use Rattle.cases.proofs.digest.with_hues.Tie as tie
 
 abbrev Inv-loop : tie.InvT-loop
-Inv-loop sum hues to₀ i₀ to i = i ≤ 16
+Inv-loop digest hues to₀ i₀ to i = i ≤ 16
 
 abbrev μ-loop : tie.MeasureT-loop
-μ-loop sum hues to₀ i₀ to i = 16 - i
+μ-loop digest hues to₀ i₀ to i = 16 - i
 
 loop-holds : tie.Need-loop-holds Inv-loop μ-loop
 loop-holds c = omega arith

@@ -1,15 +1,15 @@
--- `palette_cases::lines::hues_said` is safe and ends: it goes over the sixteen hues. Assumes nothing.
+-- `cases::hues::all_said` is safe and ends: it goes over the sixteen hues. Assumes nothing.
 use Prim.Native.Nat.{_≤_, _-_}
 use native.Mathlib.Omega.{arith}
 use borrow.Author.Needs.{needs}
-use Rattle.palette_cases.proofs.lines.hues_said.Statement.{statement}
-use Rattle.palette_cases.proofs.lines.hues_said.Tie as tie
+use Rattle.cases.proofs.hues.all_said.Statement.{statement}
+use Rattle.cases.proofs.hues.all_said.Tie as tie
 
 abbrev Inv-loop : tie.InvT-loop
-Inv-loop words count given₀ i₀ given i = i ≤ 16
+Inv-loop words from count given₀ i₀ given i = i ≤ 16
 
 abbrev μ-loop : tie.MeasureT-loop
-μ-loop words count given₀ i₀ given i = 16 - i
+μ-loop words from count given₀ i₀ given i = 16 - i
 
 loop-holds : tie.Need-loop-holds Inv-loop μ-loop
 loop-holds c = omega arith
@@ -38,7 +38,7 @@ loop-again c = omega arith
 returns : tie.Need-returns Inv-loop μ-loop
 returns c = tt
 
-pub hues-said-spec : {M : Type 1} → statement M
-hues-said-spec =
+pub all-said-spec : {M : Type 1} → statement M
+all-said-spec =
     tie.close
     (tie.spec Inv-loop μ-loop loop-holds said-requires hue-of-requires mul-given array-write-given add-i loop-less loop-again returns)
