@@ -1,16 +1,21 @@
-//! Times the filling of a whole gamut table, placements on rings of it, pairs of its rows, and
-//! whole searches of it, by our archive and by the published Rust, in turns. See
-//! compare/README.md.
+//! Times the filling of a whole gamut table, placements on rings of it, pairs of its rows, whole
+//! searches of it, and back-offs of what they find, by our archive and by the published Rust, in
+//! turns. See compare/README.md.
 
+mod back_offs;
 mod big;
 mod chroma; // max_chroma and l_of, taken from the published file by compare/build
 #[allow(dead_code)]
 mod color; // the published file, patched by compare/build
+mod deriving; // derive and back_off, taken from the published file by compare/build
+mod findings;
 mod pairing; // best_for_levels, search and their table, taken from the published file by compare/build
 mod palette; // the white point, taken from the published file by compare/build
 mod placing; // feasible, place_from and the step, taken from the published file by compare/build
 #[allow(dead_code)]
 mod standins;
+#[allow(dead_code)]
+mod validating; // a palette and its validation, taken from the published file by compare/build
 
 use standins::{BAD_DIRECTIONS, BAD_LEVEL, BAD_ROW, DIRECTIONS, LEVELS};
 use std::time::Instant;
@@ -21,7 +26,7 @@ const TURNS: usize = 41;
 const SEARCH_TURNS: usize = 15;
 /// What each hue is before a placement.
 const BEFORE: u16 = 4711;
-/// What the chroma is before a pair or a search.
+/// What the chroma is before a pair, a search or a back-off.
 const BEFORE_CHROMA: f32 = 47.11;
 /// What each level index is before a search.
 const BEFORE_LEVEL: usize = 471_147;
@@ -159,6 +164,15 @@ fn in_turns(turns: usize, sides: [&mut dyn FnMut(); 2]) -> [Vec<f64>; 2] {
         times[side].push(start.elapsed().as_secs_f64() * 1e3);
     }
     times
+}
+
+/// The times of both sides turn by turn, over several parts of as many turns.
+fn sums(parts: &[[Vec<f64>; 2]]) -> [Vec<f64>; 2] {
+    [0, 1].map(|side| {
+        let turns = 0..parts[0][side].len();
+        let sum = |turn: usize| parts.iter().map(|times| times[side][turn]).sum();
+        turns.map(sum).collect()
+    })
 }
 
 /// Writes the times of both sides and their ratio.
@@ -533,28 +547,22 @@ fn searched(table: &[f32], gamut: &pairing::Gamut, k: usize) -> [Vec<f64>; 2] {
 /// Searches the whole table for 1 to 8 hues by both sides, and writes the ratio over all.
 fn searches(table: &[f32]) {
     let gamut = pairing::over(LEVELS, DIRECTIONS, table.to_vec());
-    let mut all = [vec![0.0; SEARCH_TURNS], vec![0.0; SEARCH_TURNS]];
-    for k in 1..=8 {
-        let times = searched(table, &gamut, k);
-        for (all, times) in all.iter_mut().zip(&times) {
-            all.iter_mut()
-                .zip(times)
-                .for_each(|(all, time)| *all += time);
-        }
-    }
-    report("the whole search for all of k = 1 to 8", &all);
+    let each: Vec<_> = (1..=8).map(|k| searched(table, &gamut, k)).collect();
+    report("the whole search for all of k = 1 to 8", &sums(&each));
     println!("all searches are equal bit for bit");
 }
 
-/// Tries the refusals, then times the four parts.
+/// Tries the refusals, then times the five parts.
 fn main() {
     let (cos, sin) = standins::directions();
     refusals(&cos, &sin);
     placement_refusals();
     pair_refusals();
     search_refusals();
+    back_offs::refusals(&cos, &sin);
     let table = tables(&cos, &sin);
     placements(&table);
     bests(&table);
     searches(&table);
+    back_offs::all(&table, &cos, &sin);
 }

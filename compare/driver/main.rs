@@ -8,6 +8,7 @@ mod chroma; // max_chroma and l_of, taken from the published file by compare/bui
 #[allow(dead_code)]
 mod color; // the published file, patched by compare/build
 mod deriving; // derive and back_off, taken from the published file by compare/build
+mod findings;
 mod gamut;
 mod gamut_lists;
 mod job;

@@ -5,6 +5,7 @@ use crate::cases::{word, List};
 use crate::chroma::l_of;
 use crate::color::Srgb8;
 use crate::deriving;
+use crate::findings::finding;
 use crate::placement::takes;
 use crate::standins::{takes_directions, BAD_DIRECTIONS, BAD_LEVEL, DIRECTIONS, LEVELS};
 use crate::validating::{Palette, PaletteMetrics};
@@ -21,9 +22,6 @@ pub const COLORS: usize = 32;
 const COLORS_A_LINE: usize = 24;
 /// No light at all.
 pub const BLACK: Srgb8 = Srgb8::new(0, 0, 0);
-/// A word of the text of each finding, which no other text has, at the finding's number; at 0
-/// that of the text where nothing was tried.
-const WORDS: [&str; 5] = ["candidate", "gap", "spread", "separation", "chroma"];
 
 /// What a palette is derived from, but for its chroma: a hue count, the dark and the light
 /// level index, and the hue indices.
@@ -72,14 +70,6 @@ fn palette_refusal(k: u32, count: u32, (cos, sin): &Directions) -> Option<u32> {
         (BAD_DIRECTIONS, takes_directions(cos, sin)),
         (BAD_COLORS, u64::from(count) == 2 * u64::from(k)),
     ])
-}
-
-/// The number of a finding by its text.
-fn finding(text: &str) -> u32 {
-    let has = |(_, word): &(usize, &&str)| text.contains(**word);
-    let found: Vec<usize> = WORDS.iter().enumerate().filter(has).map(|w| w.0).collect();
-    assert!(found.len() == 1, "no text of a finding: {text}");
-    found[0] as u32
 }
 
 /// The four metrics of a palette and its finding, 0 where it has none.

@@ -1,7 +1,8 @@
 -- What a call hands to a caller in another language, as one number. Definitions only.
-use Prim.Native.Nat.{ℕ}
-use mathlib.Core.List.{List, [], _∷_}
+use Prim.Native.Nat.{ℕ, _+_}
+use mathlib.Core.List.{List, [], _∷_, map}
 use lib.Ieee.{Float}
+use lib.ListN.{replicate}
 use Rattle.limits.specs.Answers.{Said, value, refused}
 use Rattle.placement.specs.Ring.{Places, nowhere, placed}
 use Rattle.placement.specs.Placing.{huesBeside}
@@ -11,6 +12,10 @@ use Rattle.search.specs.declared.Settings.{Settings}
 use Rattle.search.specs.declared.Best as search
 use Rattle.search.specs.declared.Best.the-variants.{None, Found}
 use Rattle.search.specs.declared.Job.{Job}
+use Rattle.color.specs.Parts.{toHex}
+use Rattle.palette.specs.declared.Design.{Design}
+use Rattle.palette.specs.Derivation.{colorsOf}
+use Rattle.palette.specs.BackOff.{Ending, passes, lastly}
 
 -- 0 where the call is accepted, else document 01's number of the refusal
 abbrev pub numberOf : {A : Type 0} → Said A → ℕ
@@ -68,3 +73,23 @@ bestHands None hues levels chroma = handed 255 hues levels chroma
 abbrev pub searchHands : Said Job → List ℕ → List ℕ → List Float → Handed
 searchHands (value j) hues levels chroma = bestHands (j .best) (j .hues) levels chroma
 searchHands (refused n) hues levels chroma = handed n hues levels chroma
+
+-- the design that four arguments make
+abbrev pub designOf : ℕ → ℕ → ℕ → List ℕ → Design
+designOf k dark light hues = record { k = k; dark = dark; light = light; hues = hues }
+
+-- what a back-off leaves a caller with: a number, thirty-two colours and one chroma
+pub record Backed : Type 0 where
+  pub number : ℕ
+  pub colors : List ℕ
+  pub chroma : List Float
+
+abbrev pub backed : ℕ → List ℕ → List Float → Backed
+backed n colors chroma = record { number = n; colors = colors; chroma = chroma }
+
+-- after a back-off of a design that says this: 0 with the chroma that passes and its colours; 240 and the last finding's number, 240 alone where none was tried, with
+-- zeros for colours and the chroma as before; or document 01's number of the refusal with both as before
+abbrev pub backOffHands : Design → List Float → List Float → Said Ending → List ℕ → List Float → Backed
+backOffHands d cs ss (value (passes c)) colors chroma = backed 0 (map toHex (colorsOf d c cs ss)) (c ∷ [])
+backOffHands d cs ss (value (lastly n)) colors chroma = backed (240 + n) (replicate 32 0) chroma
+backOffHands d cs ss (refused n) colors chroma = backed n colors chroma

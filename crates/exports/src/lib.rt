@@ -1,11 +1,15 @@
 // Functions for callers in other languages, each exported under its own name. A slice is handed over as the address of its
 // first element, then its length; what is written must overlap nothing else that is handed over.
+use color::Srgb8;
 use gamut::Filling;
+use palette::BackOff;
+use palette::Design;
 use placement::Answer;
 use search::Best;
 use search::Job;
 use search::Settings;
 ghost use mathlib.Core.Path.{_≡_};
+ghost use mathlib.Core.List.{map};
 ghost use Prim.Native.Nat.{ℕ};
 ghost use lib.ListN.{length};
 ghost use Rattle.limits.specs.Answers.{refused};
@@ -13,13 +17,18 @@ ghost use Rattle.placement.specs.Placing.{placementSays};
 ghost use Rattle.pair.specs.Pair.{pairSays};
 ghost use Rattle.search.specs.Job.{searchSays};
 ghost use Rattle.gamut.specs.Gamut.{fillSaid, fillSays, rowAfter};
-ghost use Rattle.exports.specs.Numbers.{numberOf, placeNumber, huesAfter, bestNumber, bestHues, bestChroma, settingsOf, handed, searchHands};
+ghost use Rattle.color.specs.Parts.{toHex};
+ghost use Rattle.palette.specs.BackOff.{backOffSays};
+ghost use Rattle.exports.specs.Numbers.{numberOf, placeNumber, huesAfter, bestNumber, bestHues, bestChroma, settingsOf, handed, searchHands, designOf, backed, backOffHands};
 
 // What is given where there is no placement.
 const NO_PLACEMENT: u32 = 255;
 
 // What is given where no chroma is found.
 const NO_CHROMA: u32 = 255;
+
+// What is given where no chroma passes, but for the last finding.
+const NONE_PASSES: u32 = 240;
 
 // An answer as one number.
 fn number_of(filling: Filling) -> u32
@@ -149,6 +158,65 @@ pub extern "C" fn tengcuvo_search(
                     0
                 }
             }
+        }
+    }
+}
+
+// Thirty-two colours as 0xRRGGBB.
+fn hexes_of(colors: [Srgb8; 32]) -> [u32; 32]
+    ensures { λ r. ⌜ r ≡ map toHex colors ⌝ }
+{
+    let mut hexes = [0u32; 32];
+    let mut i: usize = 0;
+    while i < 32 {
+        let color = colors[i];
+        hexes[i] = color.to_hex();
+        i += 1;
+    }
+    hexes
+}
+
+// The back-off of a design from a chroma: gives 0 with the first chroma that passes and its colours as 0xRRGGBB; 240 and the
+// number of the last finding, or 240 alone where no chroma was tried, with zeros for colours and `passed` as before; or the
+// number of a refusal, with both as before.
+#[no_mangle]
+pub extern "C" fn tengcuvo_back_off(
+    k: usize,
+    dark: usize,
+    light: usize,
+    hues: &[u16; 16],
+    chroma: f32,
+    cos: &[f32],
+    sin: &[f32],
+    colors: &mut [u32; 32],
+    passed: &mut [f32; 1],
+) -> u32
+    ensures { λ r. ⌜ backed r (now (colors .exit)) (now (passed .exit)) ≡ backOffHands (designOf k dark light (now (hues .entry))) (now (cos .entry)) (now (sin .entry)) (backOffSays (designOf k dark light (now (hues .entry))) chroma (now (cos .entry)) (now (sin .entry))) (now (colors .entry)) (now (passed .entry)) ⌝ }
+{
+    let indices = *hues;
+    let design = Design {
+        k,
+        dark,
+        light,
+        hues: indices,
+    };
+    let ended = palette::back_off(design, chroma, cos, sin);
+    let answer = ended.answer;
+    let given = ended.colors;
+    match answer {
+        BackOff::Refused(why) => why.number() as u32,
+        BackOff::Passed(c) => {
+            *colors = hexes_of(given);
+            *passed = [c];
+            0
+        }
+        BackOff::Found(finding) => {
+            *colors = hexes_of(given);
+            NONE_PASSES + finding.number() as u32
+        }
+        BackOff::Untried => {
+            *colors = hexes_of(given);
+            NONE_PASSES
         }
     }
 }
