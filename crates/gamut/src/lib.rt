@@ -40,7 +40,8 @@ pub enum Filling {
     Refused(Refusal),
 }
 
-// The greatest chroma in gamut at lightness l in the direction (cos, sin), as 40 halvings from 0 to 200 find it.
+// The greatest chroma in gamut at lightness l in the direction (cos, sin), as 40 halvings from 0 to 200 find it. A round whose
+// midpoint is an end and moves nothing is the last.
 pub fn max_chroma(l: f32, cos: f32, sin: f32) -> f32
     ensures { λ r. ⌜ r ≡ maxChroma l cos sin ⌝ }
 {
@@ -53,13 +54,20 @@ pub fn max_chroma(l: f32, cos: f32, sin: f32) -> f32
     while i < 40 {
         let mid = halving::midpoint(lo, hi);
         if color::lch_in_gamut(l, mid, cos, sin) {
+            if f32::to_bits(mid) == f32::to_bits(lo) {
+                return lo;
+            }
             lo = mid;
         } else {
+            if f32::to_bits(mid) == f32::to_bits(hi) {
+                return lo;
+            }
             hi = mid;
         }
         i += 1;
     }
-    return lo;
+    let chroma = lo;
+    chroma
 }
 
 // Writes the entries of the row at lightness l.

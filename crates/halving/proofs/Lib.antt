@@ -10,3 +10,4 @@ pub mod Width
 pub mod Plain
 pub mod Lower
 pub mod EndState
+pub mod Meeting

@@ -5,15 +5,14 @@ use mathlib.Core.Bool.{Bool, true, false, cond}
 use mathlib.Core.List.{List}
 use Prim.Native.Nat.{ℕ, _+_, _-_, _≤_, _<_}
 use native.Mathlib.Omega.{arith}
-use lib.Ieee.{Float, nan, inf, fin, binary32, ofBits, toBits, isNan, lt, round, add}
-use lib.Ieee.Bits.{ofBits-toBits}
-use lib.Ieee.Fits.{mul-fits}
+use lib.Ieee.{Float, binary32, toBits, lt}
 use Rattle.limits.specs.Answers.{value}
 use Rattle.limits.specs.Taken.{chromaTaken}
 use Rattle.limits.proofs.Floats.{never}
 use Rattle.halving.specs.Midpoint.{midpoint, halve}
 use Rattle.halving.proofs.Halve.{turn-up, turn-down, turned, stays-low, stays-high}
-use Rattle.halving.proofs.Range.{UpTo, midpoint-up-to, taken-up-to, up-to-taken}
+use Rattle.halving.proofs.Meeting.{Met, midpoint-met, same-pattern}
+use Rattle.halving.proofs.Range.{taken-up-to, up-to-taken}
 use Rattle.placement.specs.declared.Answer.{Answer}
 use Rattle.placement.specs.declared.Answer.the-variants.{Placed, Nowhere, Refused}
 use Rattle.placement.specs.Ring.{Places, nowhere, placed}
@@ -24,28 +23,6 @@ use Rattle.pair.specs.Pair.{none, found, placedAt, some, placeable, best
 use Rattle.pair.specs.Limit.{F32}
 use Rattle.pair.specs.Inner.{Ready}
 use Rattle.pair.proofs.Rows.{largest-up-to}
-
--- ---- a chroma that a halving meets
-pub record Met (c : Float) : Type 0 where
-  pub up-to : UpTo 200 c
-  pub f32 : F32 c
-
-pub no-nan : {c : Float} → Met c → isNan c ≡ false
-unfolding isNan
-no-nan {c} m = go c (m .up-to)
-  where
-    go : (x : Float) → UpTo 200 x → isNan x ≡ false
-    go nan p = absurd p
-    go (inf s) p = refl
-    go (fin s m e) p = refl
-
-midpoint-met : {lo hi : Float} → Met lo → Met hi → Met (midpoint lo hi)
-unfolding midpoint
-midpoint-met {lo} {hi} l h = record { up-to = midpoint-up-to 200 lo hi (omega arith) (l .up-to) (h .up-to); f32 = mul-fits binary32 (round binary32 false 1 2) (add binary32 lo hi) }
-
--- equal patterns are equal numbers
-same-pattern : {x y : Float} → Met x → Met y → toBits binary32 x ≡ toBits binary32 y → x ≡ y
-same-pattern {x} {y} p q h = sym (ofBits-toBits binary32 x (p .f32)) ∙ ap (ofBits binary32) h ∙ ofBits-toBits binary32 y (q .f32)
 
 -- ---- an answer that gives places
 -- these sixteen hues are placed at c
