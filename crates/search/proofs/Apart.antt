@@ -1,13 +1,13 @@
 -- A pair of levels passes the f32 test of the gap exactly where it is far apart by exact fractions: levels and their differences are exact. Assumes nothing.
 use mathlib.Core.Path.{_≡_, refl, sym, ap, _∙_, subst}
 use mathlib.Core.Logic.{inl, inr}
-use mathlib.Core.Bool.{Bool, true, false, not, _&&_, cond, true≢false}
+use mathlib.Core.Bool.{Bool, true, false, not, true≢false}
 use Prim.Native.Nat.{ℕ, _+_, _-_, _*_, _^_, _≤_, _<_}
-use native.Mathlib.Nat.{le-trans, le-of-eq, lt-of-lt-of-le, mul-assoc, mul-comm, mul-one, mul-right-comm, add-mul, mul-sub, mul-pos, mul-le-mul-right, mul-lt-mul-of-pos-right}
+use native.Mathlib.Nat.{le-trans, le-of-eq, lt-of-lt-of-le, mul-assoc, mul-comm, mul-one, mul-right-comm, add-mul, mul-sub, mul-pos, mul-lt-mul-of-pos-right}
 use native.Mathlib.Omega.{arith}
-use lib.Dec.{T, ltb}
+use lib.Dec.{ltb}
 use lib.Pow.{pow-add, pow-pos, pow-mono}
-use lib.Ieee.{Float, nan, inf, fin, binary32, up, down, round, sum, add, sub, neg, mul, lt, le, ofInt}
+use lib.Ieee.{Float, nan, inf, fin, binary32, up, down, round, sum, add, sub, neg, mul, lt, ofInt}
 use lib.Ieee.Back.{round-whole}
 use lib.Ieee.Exact.{HasValue, round-exact}
 use lib.Ieee.Fits.{down-pos}
@@ -15,6 +15,7 @@ use lib.Ieee.Scale.{round-same}
 use borrow.Author.Tests.{ltb-false, lt-ltb, le-ltb, not-true}
 use Rattle.limits.specs.Taken.{f32Of, gapTaken}
 use Rattle.halving.proofs.Least.{below-or-not}
+use Rattle.halving.proofs.Lower.{sub-values}
 use Rattle.halving.proofs.Midway.{revalue, add-values}
 use Rattle.halving.proofs.Plain.{compared}
 use Rattle.halving.proofs.Range.{UpTo, taken-up-to, sum-up-to}
@@ -55,58 +56,34 @@ level-value i h =
     (whole-half (f32Of 12) 12 (round-whole binary32 false 12 (omega arith)))
     (times-half (f32Of i) i (omega arith) (round-whole binary32 false i (omega arith)))
 
--- ---- the difference of two halves, with its sign
-subtracted : (x y : Float) (a b : ℕ) → HasValue x false a 2 → HasValue y false b 2
-    → (b ≤ a → sub binary32 x y ≡ round binary32 false (a - b) 2) × (a < b → sub binary32 x y ≡ round binary32 true (b - a) 2)
+-- ---- the difference of two halves where it is below 0
+subtracted-from-less : (x y : Float) (a b : ℕ) → HasValue x false a 2 → HasValue y false b 2 → a < b → sub binary32 x y ≡ round binary32 true (b - a) 2
 unfolding sub neg add sum
-subtracted nan y a b v w = absurd v
-subtracted (inf s) y a b v w = absurd v
-subtracted (fin true m e) y a b v w = absurd (true≢false (v .0))
-subtracted (fin false m e) nan a b v w = absurd w
-subtracted (fin false m e) (inf t) a b v w = absurd w
-subtracted (fin false m e) (fin true n d) a b v w = absurd (true≢false (w .0))
-subtracted (fin false m e) (fin false n d) a b v w = (down-to, up-from)
+subtracted-from-less nan y a b v w h = absurd v
+subtracted-from-less (inf s) y a b v w h = absurd v
+subtracted-from-less (fin true m e) y a b v w h = absurd (true≢false (v .0))
+subtracted-from-less (fin false m e) nan a b v w h = absurd w
+subtracted-from-less (fin false m e) (inf t) a b v w h = absurd w
+subtracted-from-less (fin false m e) (fin true n d) a b v w h = absurd (true≢false (w .0))
+subtracted-from-less (fin false m e) (fin false n d) a b v w h =
+    let A = m * up e * down d in
+    let B = n * up d * down e in
+    let C = down e * down d in
+    let c : 0 < C = mul-pos (down-pos e) (down-pos d) in
+    let left : A * 2 ≡ a * C = mul-right-comm (m * up e) (down d) 2 ∙ ap (λ (z : ℕ). z * down d) (v .1) ∙ mul-assoc a (down e) (down d) in
+    let right : B * 2 ≡ b * C = mul-right-comm (n * up d) (down e) 2 ∙ ap (λ (z : ℕ). z * down e) (w .1) ∙ mul-assoc b (down d) (down e) ∙ ap (λ (z : ℕ). b * z) (mul-comm (down d) (down e)) in
+    let k : a * C < b * C = mul-lt-mul-of-pos-right h c in
+    let l : A < B = strict A B (a * C) (b * C) left right k in
+    rw (lt-ltb A B l) (round-same binary32 true (B - A) C (b - a) 2 c (omega arith) (off B A (b * C) (a * C) right left ∙ sym (minus b a C)))
   where
-    A : ℕ
-    A = m * up e * down d
-
-    B : ℕ
-    B = n * up d * down e
-
-    C : ℕ
-    C = down e * down d
-
-    C-pos : 0 < C
-    C-pos = mul-pos (down-pos e) (down-pos d)
-
-    left : A * 2 ≡ a * C
-    left = mul-right-comm (m * up e) (down d) 2 ∙ ap (λ (z : ℕ). z * down d) (v .1) ∙ mul-assoc a (down e) (down d)
-
-    right : B * 2 ≡ b * C
-    right = mul-right-comm (n * up d) (down e) 2 ∙ ap (λ (z : ℕ). z * down e) (w .1) ∙ mul-assoc b (down d) (down e) ∙ ap (λ (z : ℕ). b * z) (mul-comm (down d) (down e))
-
-    less : (p q x y : ℕ) → p * 2 ≡ x → q * 2 ≡ y → y ≤ x → q ≤ p
-    less p q x y f g h = omega arith
+    strict : (p q x y : ℕ) → p * 2 ≡ x → q * 2 ≡ y → x < y → p < q
+    strict p q x y f g h = omega arith
 
     off : (p q x y : ℕ) → p * 2 ≡ x → q * 2 ≡ y → (p - q) * 2 ≡ x - y
     off p q x y f g = omega arith
 
     minus : (x y c : ℕ) → (x - y) * c ≡ x * c - y * c
     minus x y c = mul-comm (x - y) c ∙ mul-sub c x y ∙ ap (λ (z : ℕ). z - c * y) (mul-comm c x) ∙ ap (λ (z : ℕ). x * c - z) (mul-comm c y)
-
-    down-to : b ≤ a → cond (ltb A B) (round binary32 true (B - A) C) (round binary32 (false && ltb B A) (A - B) C) ≡ round binary32 false (a - b) 2
-    down-to h =
-        let l : B ≤ A = less A B (a * C) (b * C) left right (mul-le-mul-right C h) in
-        rw (le-ltb A B l) (round-same binary32 false (A - B) C (a - b) 2 C-pos (omega arith) (off A B (a * C) (b * C) left right ∙ sym (minus a b C)))
-
-    up-from : a < b → cond (ltb A B) (round binary32 true (B - A) C) (round binary32 (false && ltb B A) (A - B) C) ≡ round binary32 true (b - a) 2
-    up-from h =
-        let k : a * C < b * C = mul-lt-mul-of-pos-right h C-pos in
-        let l : A < B = strict A B (a * C) (b * C) left right k in
-        rw (lt-ltb A B l) (round-same binary32 true (B - A) C (b - a) 2 C-pos (omega arith) (off B A (b * C) (a * C) right left ∙ sym (minus b a C)))
-      where
-        strict : (p q x y : ℕ) → p * 2 ≡ x → q * 2 ≡ y → x < y → p < q
-        strict p q x y f g h = omega arith
 
 -- a number below 0 is below one that is not
 negative-below : (x y : Float) (a b c : ℕ) → HasValue x true a 2 → 0 < a → HasValue y false b c → lt x y ≡ true
@@ -146,7 +123,7 @@ module _ (s : Settings) (taken : gapTaken (s .gap) ≡ true) (d l : ℕ) (D : d 
 
   difference : (b : ℕ) → b ≡ l - d → d ≤ l → HasValue apart false b 2
   difference b e h =
-      let x = subtracted (levelOf l) (levelOf d) (24 + l) (24 + d) (level-value l (omega arith)) (level-value d (omega arith)) .0 (omega arith) in
+      let x = sub-values (levelOf l) (levelOf d) (24 + l) (24 + d) 2 (omega arith) (omega arith) (level-value l (omega arith)) (level-value d (omega arith)) in
       let f : 24 + l - (24 + d) ≡ b = omega arith in
       subst (λ (z : Float). HasValue z false b 2) (sym (x ∙ ap (λ (n : ℕ). round binary32 false n 2) f)) (half false b (omega arith))
 
@@ -156,7 +133,7 @@ module _ (s : Settings) (taken : gapTaken (s .gap) ≡ true) (d l : ℕ) (D : d 
 
   reversed : l < d → lt apart total ≡ true
   reversed h =
-      let x = subtracted (levelOf l) (levelOf d) (24 + l) (24 + d) (level-value l (omega arith)) (level-value d (omega arith)) .1 (omega arith) in
+      let x = subtracted-from-less (levelOf l) (levelOf d) (24 + l) (24 + d) (level-value l (omega arith)) (level-value d (omega arith)) (omega arith) in
       let f : 24 + d - (24 + l) ≡ d - l = omega arith in
       let v : HasValue apart true (d - l) 2 = subst (λ (z : Float). HasValue z true (d - l) 2) (sym (x ∙ ap (λ (n : ℕ). round binary32 true n 2) f)) (half true (d - l) (omega arith)) in
       let t = total-value in
