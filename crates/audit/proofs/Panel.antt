@@ -11,20 +11,22 @@ use lib.Ieee.{Float, le}
 use lib.ListN.{length, take}
 use borrow.Author.Tests.{leb-true}
 use Rattle.limits.specs.Answers.{Said, value, refused}
-use Rattle.limits.specs.Taken.{hueCountTaken, entryTaken, every}
-use Rattle.placement.specs.Placing.{workNeeded}
-use Rattle.pair.specs.Limit.{Each, F32}
-use Rattle.search.specs.declared.Settings.{Settings}
-use Rattle.search.specs.declared.Best.the-variants.{None, Found}
-use Rattle.search.specs.declared.Job.{Job}
-use Rattle.search.specs.Job.{levelsIn, tableTaken, gapStarts, begun, startChecked, startSays, stepsFrom, searchSays}
-use Rattle.search.specs.Runs.{Choice, commonOf, Promise, run, wholeSearch}
-use Rattle.search.specs.Accepted.{StartTaken}
-use Rattle.search.proofs.Checking.{four}
-use Rattle.search.proofs.Laws.{Good}
-use Rattle.search.proofs.Accepted.{start-only}
-use Rattle.search.proofs.Goes.{all-accepted, search-is-run}
-use Rattle.search.proofs.Runs.{whole-runs}
+use Rattle.limits.specs.Each.{Each, F32}
+use Rattle.limits.proofs.Checks as checking
+use Rattle.limits.proofs.Checks.{AllPass, all-pass}
+use Rattle.gamut.specs.Table.{levelsIn}
+use Rattle.placement_rules.specs.Placing.{workNeeded}
+use Rattle.search_rules.specs.declared.Settings.{Settings}
+use Rattle.search_rules.specs.declared.Best.the-variants.{None, Found}
+use Rattle.search_rules.specs.declared.Job.{Job}
+use Rattle.search_rules.specs.Job.{begun, startChecked, startSays, stepsFrom, searchSays}
+use Rattle.search_rules.specs.Runs.{Choice, commonOf, Promise, run, wholeSearch}
+use Rattle.search_rules.specs.Accepted.{StartTaken}
+use Rattle.search_rules.proofs.Checking.{start-checks}
+use Rattle.search_rules.proofs.Rows.{Good}
+use Rattle.search_rules.proofs.Accepted.{start-only}
+use Rattle.search_rules.proofs.Goes.{all-accepted, search-is-run}
+use Rattle.search_rules.proofs.Runs.{whole-runs}
 use Rattle.audit.specs.Panel.{Palette, PanelLimit, NoPalette}
 
 module _ (s : Settings) (t : List Float) (work : List ℕ) (j : Job) (f32 : Each F32 t) (said : searchSays s t (length work) ≡ value j) where
@@ -36,23 +38,22 @@ module _ (s : Settings) (t : List Float) (work : List ℕ) (j : Job) (f32 : Each
   room-first true x h = refl
   room-first false x h = absurd (let z : _≡_ {A = ℕ} 0 1 = cc in omega arith)
 
-  checks : ((hueCountTaken (s .k) ≡ true) × ((gapStarts (s .gap) ≡ true) × ((tableTaken t ≡ true) × (every entryTaken t ≡ true)))) × (leb (workNeeded 720) (length work) ≡ true)
+  checks : AllPass (start-checks s t) × (leb (workNeeded 720) (length work) ≡ true)
   unfolding searchSays startChecked
   checks =
       let x = stepsFrom all (begun s (levelsIn t)) t (length work) in
-      let f = four (hueCountTaken (s .k)) (gapStarts (s .gap)) (tableTaken t) (every entryTaken t) 1 2 6 7 (cond (leb (workNeeded 720) (length work)) (value x) (refused 8)) j said in
+      let f = all-pass (start-checks s t) (cond (leb (workNeeded 720) (length work)) (value x) (refused 8)) j said in
       (f .0, room-first (leb (workNeeded 720) (length work)) x (f .1))
 
   good : Good t
-  good = record { levels-taken = checks .0 .1 .1 .0; entries-taken = checks .0 .1 .1 .1; entries-f32 = f32 }
+  good = record { levels-taken = checks .0 .1 .1 .0; entries-taken = checks .0 .1 .1 .1 .0; entries-f32 = f32 }
 
   startable : StartTaken s t
   unfolding startSays startChecked
-  startable = start-only s t (begun s (levelsIn t), rw (checks .0 .0, checks .0 .1 .0, checks .0 .1 .1 .0, checks .0 .1 .1 .1))
+  startable = start-only s t (begun s (levelsIn t), checking.said (start-checks s t) (value (begun s (levelsIn t))) (checks .0))
 
-  room : 2160 ≤ length work
-  unfolding workNeeded
-  room = leb-true 2160 (length work) (checks .1)
+  room : workNeeded 720 ≤ length work
+  room = leb-true (workNeeded 720) (length work) (checks .1)
 
   -- ---- demand 3, after all its steps
   pub promise : Promise t s all j

@@ -6,11 +6,11 @@ use Prim.Native.Nat.{ℕ, _<_}
 use lib.Ieee.{Float, le}
 use Rattle.limits.specs.Taken.{f32Of}
 use Rattle.halving.specs.Patterns.{next}
-use Rattle.placement.specs.Placing.{stepFor}
-use Rattle.pair.specs.Limit.{Hues}
-use Rattle.search.specs.declared.Settings.{Settings}
-use Rattle.search.specs.Job.{levelsIn}
-use Rattle.search.specs.Runs.{FarApart, commonOf}
+use Rattle.gamut.specs.Table.{levelsIn}
+use Rattle.placement_rules.specs.Placing.{stepFor}
+use Rattle.pair_rules.specs.Limit.{Hues}
+use Rattle.search_rules.specs.declared.Settings.{Settings}
+use Rattle.search_rules.specs.Runs.{FarApart, commonOf}
 
 -- what a panel with this table could show: any two of its levels that are far enough apart, with k hues spaced at least the step all round
 pub record Palette (t : List Float) (s : Settings) : Type 0 where

@@ -4,14 +4,14 @@ use mathlib.Core.List.{List, [], _∷_, map}
 use lib.Ieee.{Float}
 use lib.ListN.{replicate}
 use Rattle.limits.specs.Answers.{Said, value, refused}
-use Rattle.placement.specs.Ring.{Places, nowhere, placed}
-use Rattle.placement.specs.Placing.{huesBeside}
-use Rattle.pair.specs.Pair as pair
-use Rattle.pair.specs.Pair.{Best, none, found}
-use Rattle.search.specs.declared.Settings.{Settings}
-use Rattle.search.specs.declared.Best as search
-use Rattle.search.specs.declared.Best.the-variants.{None, Found}
-use Rattle.search.specs.declared.Job.{Job}
+use Rattle.placement_rules.specs.Ring.{Places, nowhere, placed}
+use Rattle.placement_rules.specs.Placing.{huesBeside}
+use Rattle.pair_rules.specs.Pair as pair
+use Rattle.pair_rules.specs.Pair.{Best, none, found}
+use Rattle.search_rules.specs.declared.Settings.{Settings}
+use Rattle.search_rules.specs.declared.Best as search
+use Rattle.search_rules.specs.declared.Best.the-variants.{None, Found}
+use Rattle.search_rules.specs.declared.Job.{Job}
 use Rattle.color.specs.Parts.{toHex}
 use Rattle.palette.specs.declared.Design.{Design}
 use Rattle.palette.specs.Derivation.{colorsOf}

@@ -1,2 +1,4 @@
 pub mod Rows
 pub mod Entries
+pub mod Table
+pub mod Stacked

@@ -1,1 +1,2 @@
 pub mod Gamut
+pub mod Table

@@ -5,6 +5,7 @@ ghost use mathlib.Core.Path.{_≡_};
 ghost use Prim.Native.Nat.{_≤_};
 ghost use lib.ListN.{length};
 ghost use Rattle.gamut.specs.Gamut.{levelOf, maxChroma, fillSaid, fillSays, rowAfter, rowOf};
+ghost use Rattle.gamut.specs.Table.{tableTaken};
 
 // The shape of a table: rows of 720 entries, one for each level, lent as one slice.
 pub struct Gamut {
@@ -30,6 +31,15 @@ impl Gamut {
     {
         Gamut::L_MIN + li as f32 * Gamut::L_STEP
     }
+}
+
+// Whether a slice is taken as a table, by its length.
+pub fn takes_table(table: &[f32]) -> bool
+    ensures { λ r. ⌜ r ≡ tableTaken (now (table .entry)) ⌝ }
+{
+    let n = table.len();
+    let levels = n / Gamut::HUES;
+    n == levels * Gamut::HUES && 1 <= levels && levels <= Gamut::LEVELS
 }
 
 // Whether a row was filled, or why not.

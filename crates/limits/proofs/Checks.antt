@@ -1,11 +1,16 @@
 -- Checks one after the other, each with its number, in front of what a good call says: where it is said, all pass (`all-pass`); where all pass, it is said (`said`); and where
--- one fails, its number is, whatever a good call would say (`failing`). Over any list of checks. Assumes nothing.
-use mathlib.Core.Path.{_≡_, refl, sym, ap}
+-- one fails, its number is, whatever a good call would say (`failing`). Over any list of checks, and by what a function that makes them hands back (`fine`, `wrong`).
+-- Assumes nothing.
+use mathlib.Core.Path.{_≡_, refl, sym, ap, _∙_}
 use mathlib.Core.Bool.{Bool, true, false, cond}
 use mathlib.Core.List.{List, [], _∷_}
 use Prim.Native.Nat.{ℕ}
 use native.Mathlib.Omega.{arith}
-use Rattle.limits.specs.Answers.{Said, value, refused}
+use Rattle.limits.specs.Answers.{Said, value, refused, pass}
+use Rattle.limits.specs.Refusals.{number, checkSaid}
+use Rattle.limits.specs.declared.Refusal.{Refusal}
+use Rattle.limits.specs.declared.Checked.{Checked}
+use Rattle.limits.specs.declared.Checked.the-variants.{Fine, Wrong}
 
 -- whether a check passes, and its number
 pub record Check : Type 0 where
@@ -46,3 +51,21 @@ failing (c ∷ cs) x y n h = go (c .passes) (λ (k : through cs (value y) ≡ re
     go : (b : Bool) → (through cs (value y) ≡ refused n → through cs x ≡ refused n) → cond b (through cs (value y)) (refused (c .number)) ≡ refused n → cond b (through cs x) (refused (c .number)) ≡ refused n
     go false rest h = let same : _≡_ {A = ℕ} (c .number) n = cc in ap refused same
     go true rest h = rest h
+
+-- ---- by what a function that makes the checks hands back
+module _ (cs : List Check) (r : Checked) (says : checkSaid r ≡ through cs pass) where
+  -- all pass
+  pub passed : r ≡ Fine → AllPass cs
+  passed f = all-pass cs pass tt (sym says ∙ ap checkSaid f) .0
+
+  -- what a good call says is said
+  pub fine : {A : Type 0} (x : Said A) → r ≡ Fine → through cs x ≡ x
+  fine x f = said cs x (passed f)
+
+  -- one fails: its number is said
+  pub wrong : {A : Type 0} (x : Said A) (w : Refusal) → r ≡ Wrong w → through cs x ≡ refused (number w)
+  wrong x w f = failing cs x tt (number w) (sym says ∙ ap checkSaid f)
+
+-- nothing is both said and refused
+pub said-twice : {A B : Type 0} {x : Said A} {a : A} {n : ℕ} → x ≡ value a → x ≡ refused n → B
+said-twice {a = a} {n = n} g h = differ n a (sym h ∙ g)

@@ -3,3 +3,5 @@ pub mod Every
 pub mod Floats
 pub mod HueCount
 pub mod Checks
+pub mod Lists
+pub mod Tests

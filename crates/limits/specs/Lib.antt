@@ -1,3 +1,4 @@
 pub mod Refusals
 pub mod Taken
 pub mod Answers
+pub mod Each

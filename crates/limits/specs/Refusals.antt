@@ -1,5 +1,8 @@
--- Document 01, "What a call can hand back": the number of each refusal. Definitions only.
+-- Document 01, "What a call can hand back": the number of each refusal, and what checks hand back. Definitions only.
 use Prim.Native.Nat.{ℕ}
+use Rattle.limits.specs.Answers.{Said, value, refused}
+use Rattle.limits.specs.declared.Checked.{Checked}
+use Rattle.limits.specs.declared.Checked.the-variants.{Fine, Wrong}
 use Rattle.limits.specs.declared.Refusal.{Refusal}
 use Rattle.limits.specs.declared.Refusal.the-variants.{HueCount, Gap, Chroma, RingLength, Spacing, TableLength, Entry, WorkBuffer, Directions, RowLength, LevelIndex, HueIndex, ColorCount, Finished, Broken, Operand, Line}
 
@@ -21,3 +24,8 @@ number Finished = 14
 number Broken = 15
 number Operand = 16
 number Line = 17
+
+-- what the check of the arguments hands back
+abbrev pub checkSaid : Checked → Said (Unit {0})
+checkSaid Fine = value tt
+checkSaid (Wrong w) = refused (number w)

@@ -43,6 +43,14 @@ pub enum Refusal {
     Line,
 }
 
+// What some checks made one after the other found.
+pub enum Checked {
+    // all pass
+    Fine,
+    // the first refusal that applies
+    Wrong(Refusal),
+}
+
 impl Refusal {
     // Document 01's number of a refusal.
     pub fn number(self) -> u8

@@ -3,39 +3,42 @@
 use mathlib.Core.Path.{_≡_, refl, sym, ap, _∙_}
 use mathlib.Core.Bool.{Bool, true, false, _&&_, cond}
 use mathlib.Core.List.{List, [], _∷_}
-use Prim.Native.Nat.{ℕ, _*_, _≤_}
+use Prim.Native.Nat.{ℕ, _≤_}
 use native.Mathlib.Omega.{arith}
 use lib.Dec.{leb, eqb}
 use lib.Ieee.{Float}
 use lib.ListN.{length}
 use borrow.Author.Tests.{leb-true, le-leb, eqb-true, eq-eqb, ne-eqb}
-use Rattle.limits.specs.Answers.{Said, value, refused}
-use Rattle.limits.specs.Refusals.{number}
+use Rattle.limits.specs.Answers.{Said, value, refused, fail, pass}
+use Rattle.limits.specs.Refusals.{number, checkSaid}
 use Rattle.limits.specs.declared.Refusal.{Refusal}
 use Rattle.limits.specs.Taken.{hueCountTaken, chromaTaken, entryTaken, every}
 use Rattle.limits.proofs.HueCount.{both}
-use Rattle.placement.specs.declared.Checked.{Checked}
-use Rattle.placement.specs.declared.Checked.the-variants.{Fine, Wrong}
-use Rattle.placement.specs.Placing.{workNeeded, checked, checkSaid}
-use Rattle.placement.proofs.Checking.{fail, ring-passes, ring-accepted, ring-rejected}
-use Rattle.pair.specs.Rows.{ringLength, leastRow}
-use Rattle.pair.specs.Pair.{bestOver, alike, lengthsTaken, entriesTaken, rowsChecked, rowsSay}
-use Rattle.pair.specs.Inner.{pass}
-use Rattle.pair.proofs.Rows.{least-long, least-taken}
+use Rattle.limits.proofs.Checks.{Check, fine, wrong}
+use Rattle.limits.specs.declared.Checked.{Checked}
+use Rattle.limits.specs.declared.Checked.the-variants.{Fine, Wrong}
+use Rattle.placement_rules.specs.Placing.{workNeeded, checked}
+use Rattle.placement_rules.proofs.Checking.{checks, ring-passes}
+use Rattle.pair_rules.specs.Rows.{ringLength, leastRow}
+use Rattle.pair_rules.specs.Pair.{bestOver, alike, lengthsTaken, entriesTaken, rowsChecked, rowsSay}
+use Rattle.pair_rules.proofs.Rows.{least-long, least-taken}
 
 -- ---- any number of rows
 module _ (k step : ℕ) (floor : Float) (rows : List (List Float)) (room : ℕ) where
   pub passed : (r : Checked) → r ≡ Fine → checkSaid r ≡ rowsChecked k step floor rows room pass → rowsChecked k step floor rows room pass ≡ pass
   passed r f h = sym h ∙ ap checkSaid f
 
+  abbrev rows-checks : List Check
+  rows-checks = checks k step floor (ringLength rows) (lengthsTaken rows) (entriesTaken rows) room
+
   -- a call whose check is passed, and one whose check is failed
   pub passing : (r : Checked) → r ≡ Fine → checkSaid r ≡ rowsChecked k step floor rows room pass → rowsSay k step floor rows room ≡ value (bestOver k step floor (leastRow rows))
   unfolding rowsSay rowsChecked
-  passing r f h = ring-accepted k step floor (ringLength rows) (lengthsTaken rows) (entriesTaken rows) room (value (bestOver k step floor (leastRow rows))) (passed r f h)
+  passing r f h = fine rows-checks r h (value (bestOver k step floor (leastRow rows))) f
 
   pub refusing : (r : Checked) (w : Refusal) → r ≡ Wrong w → checkSaid r ≡ rowsChecked k step floor rows room pass → rowsSay k step floor rows room ≡ refused (number w)
   unfolding rowsSay rowsChecked
-  refusing r w f h = ring-rejected k step floor (ringLength rows) (lengthsTaken rows) (entriesTaken rows) room (value (bestOver k step floor (leastRow rows))) (number w) (sym h ∙ ap checkSaid f)
+  refusing r w f h = wrong rows-checks r h (value (bestOver k step floor (leastRow rows))) w f
 
   -- rows that are taken are no longer than 720, and placement takes their row of least values
   pub short : rowsChecked k step floor rows room pass ≡ pass → (alike (ringLength rows) rows ≡ true) × (ringLength rows ≤ 720)
@@ -74,9 +77,9 @@ first-left : (e e' : Bool) → e' ≡ true → (e && (e' && true)) ≡ e
 first-left true e' h = rw h
 first-left false e' h = refl
 
-few : (n : ℕ) → (leb 1 n && leb n 720) ≡ true → leb (workNeeded n) 2160 ≡ true
+few : (n : ℕ) → (leb 1 n && leb n 720) ≡ true → leb (workNeeded n) (workNeeded 720) ≡ true
 unfolding workNeeded
-few n h = let l = leb-true n 720 (both (leb 1 n) (leb n 720) h .1) in le-leb (3 * n) 2160 (omega arith)
+few n h = let l = leb-true n 720 (both (leb 1 n) (leb n 720) h .1) in le-leb (workNeeded n) (workNeeded 720) (omega arith)
 
 module _ (k step : ℕ) (floor : Float) (a b : List Float) (room : ℕ) where
   abbrev both-rows : Said (Unit {0})
@@ -87,21 +90,21 @@ module _ (k step : ℕ) (floor : Float) (a b : List Float) (room : ℕ) where
   unfolding rowsChecked lengthsTaken alike checked
   unequal r none f e h = h ∙ rw (e, eq-eqb (length a) (length a) refl, ne-eqb (length b) (length a) (λ (h : length b ≡ length a). f (sym h)))
 
-  module _ (same : length a ≡ length b) (r : Checked) (second : checkSaid r ≡ checked k step floor b 2160 pass) where
+  module _ (same : length a ≡ length b) (r : Checked) (second : checkSaid r ≡ checked k step floor b (workNeeded 720) pass) where
     -- what the second row is refused by, with room for any ring that is taken, both are
     pub second-refused : (w : Refusal) → r ≡ Wrong w → refused (number w) ≡ both-rows
     unfolding rowsChecked lengthsTaken alike entriesTaken checked
     second-refused w f =
         let n = length b in
         let o = leb 1 n && leb n 720 in
-        sym (rw (same, eq-eqb n n refl) (second-fails (hueCountTaken k) (chromaTaken floor) o (leb 1 step && leb step n) (every entryTaken a) (every entryTaken b) (leb (workNeeded n) room) (leb (workNeeded n) 2160) (number w) (few n) (sym second ∙ ap checkSaid f)))
+        sym (rw (same, eq-eqb n n refl) (second-fails (hueCountTaken k) (chromaTaken floor) o (leb 1 step && leb step n) (every entryTaken a) (every entryTaken b) (leb (workNeeded n) room) (leb (workNeeded n) (workNeeded 720)) (number w) (few n) (sym second ∙ ap checkSaid f)))
 
     -- where it is not, both are refused by what the first is
     pub first-says : (first : Checked) → r ≡ Fine → checkSaid first ≡ checked k step floor a room pass → checkSaid first ≡ both-rows
     unfolding rowsChecked lengthsTaken alike entriesTaken checked
     first-says first f h =
         let n = length b in
-        let t = ring-passes k step floor n (leb 1 n && leb n 720) (every entryTaken b) 2160 (sym second ∙ ap checkSaid f) in
+        let t = ring-passes k step floor n (leb 1 n && leb n 720) (every entryTaken b) (workNeeded 720) (sym second ∙ ap checkSaid f) in
         h ∙ rw (same, eq-eqb n n refl, first-left (every entryTaken a) (every entryTaken b) (t .4))
 
 -- two rows that are alike are of one length

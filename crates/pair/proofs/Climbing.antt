@@ -9,20 +9,20 @@ use lib.Ieee.{Float, binary32, toBits, lt}
 use Rattle.limits.specs.Answers.{value}
 use Rattle.limits.specs.Taken.{chromaTaken}
 use Rattle.limits.proofs.Floats.{never}
+use Rattle.limits.specs.Each.{F32}
 use Rattle.halving.specs.Midpoint.{midpoint, halve}
 use Rattle.halving.proofs.Halve.{turn-up, turn-down, turned, stays-low, stays-high}
 use Rattle.halving.proofs.Meeting.{Met, midpoint-met, same-pattern}
 use Rattle.halving.proofs.Range.{taken-up-to, up-to-taken}
-use Rattle.placement.specs.declared.Answer.{Answer}
-use Rattle.placement.specs.declared.Answer.the-variants.{Placed, Nowhere, Refused}
-use Rattle.placement.specs.Ring.{Places, nowhere, placed}
-use Rattle.placement.specs.Placing.{sixteen, placementSays, answers, isPlaced}
-use Rattle.placement.proofs.Checking.{accepted-says, at-chroma, chroma-taken, entries-taken}
-use Rattle.pair.specs.Rows.{largest}
-use Rattle.pair.specs.Pair.{none, found, placedAt, some, placeable, bestOver}
-use Rattle.pair.specs.Limit.{F32}
+use Rattle.placement_rules.specs.declared.Answer.{Answer}
+use Rattle.placement_rules.specs.declared.Answer.the-variants.{Placed, Nowhere, Refused}
+use Rattle.placement_rules.specs.Ring.{Places, nowhere, placed}
+use Rattle.placement_rules.specs.Placing.{sixteen, placementSays, answers, isPlaced}
+use Rattle.placement_rules.proofs.Checking.{row-passes, accepted-says, at-chroma}
+use Rattle.pair_rules.specs.Rows.{largest}
+use Rattle.pair_rules.specs.Pair.{none, found, placedAt, some, placeable, bestOver}
 use Rattle.pair.specs.Inner.{Ready}
-use Rattle.pair.proofs.Rows.{largest-up-to}
+use Rattle.pair_rules.proofs.Rows.{largest-up-to}
 
 -- ---- an answer that gives places
 -- these sixteen hues are placed at c
@@ -60,10 +60,10 @@ module _ {k step : ℕ} {row : List Float} {room : ℕ} {floor most : Float} (re
   -- the ends at the beginning
   pub floor-met : F32 floor → Met floor
   unfolding chromaTaken
-  floor-met u = record { up-to = taken-up-to 200 floor (omega arith) (chroma-taken k step floor row room (ready .fine)); f32 = u }
+  floor-met u = record { up-to = taken-up-to 200 floor (omega arith) (row-passes k step floor row room (ready .fine) .1); f32 = u }
 
   pub most-met : F32 most → Met most
-  most-met u = record { up-to = rw (ready .top) (largest-up-to row (entries-taken k step floor row room (ready .fine))); f32 = u }
+  most-met u = record { up-to = rw (ready .top) (largest-up-to row (row-passes k step floor row room (ready .fine) .4)); f32 = u }
 
   -- what the answer at a chroma says
   module _ {c : Float} (met : Met c) (a : Answer) (hues : List ℕ) (says : answers a hues ≡ placementSays k step c row room) where

@@ -4,15 +4,11 @@ use mathlib.Core.Bool.{false}
 use mathlib.Core.List.{List}
 use Prim.Native.Nat.{ℕ}
 use lib.Ieee.{Float, lt}
-use Rattle.limits.specs.Answers.{Said, value}
-use Rattle.placement.specs.Placing.{checked}
-use Rattle.pair.specs.declared.Chosen.{Chosen}
-use Rattle.pair.specs.Rows.{largest}
-use Rattle.pair.specs.Pair.{Best, rowsChecked, huesBeside, answers}
-
--- the answer of checks that pass
-abbrev pub pass : Said (Unit {0})
-pass = value tt
+use Rattle.limits.specs.Answers.{value, pass}
+use Rattle.placement_rules.specs.Placing.{checked}
+use Rattle.pair_rules.specs.declared.Chosen.{Chosen}
+use Rattle.pair_rules.specs.Rows.{largest}
+use Rattle.pair_rules.specs.Pair.{Best, rowsChecked, huesBeside, answers}
 
 -- rows and arguments that are taken
 abbrev pub Taken : ℕ → ℕ → Float → List (List Float) → ℕ → Type 0

@@ -1,31 +1,16 @@
 // One pair: `best_for_levels` of xtask/src/palette.rs, over two lent rows.
-use limits::Refusal;
-use placement::Checked;
+use limits::Checked;
+pub use pair_rules::Answer;
+pub use pair_rules::Chosen;
 ghost use mathlib.Core.Path.{_≡_};
 ghost use mathlib.Core.List.{[], _∷_};
 ghost use Prim.Native.Nat.{ℕ};
 ghost use lib.ListN.{length};
 ghost use Rattle.limits.specs.Answers.{value, refused};
-ghost use Rattle.placement.specs.Placing.{checkSaid};
-ghost use Rattle.pair.specs.Rows.{leastRow, largest};
-ghost use Rattle.pair.specs.Pair.{none, found, bestOver, rowsChecked, pairSays, huesBeside, answers};
+ghost use Rattle.limits.specs.Refusals.{checkSaid};
+ghost use Rattle.pair_rules.specs.Rows.{leastRow, largest};
+ghost use Rattle.pair_rules.specs.Pair.{none, found, bestOver, rowsChecked, pairSays, huesBeside, answers};
 ghost use Rattle.pair.specs.Inner.{Taken, Ready, Gives};
-
-// The best of a pair.
-pub enum Answer {
-    // the last chroma placed, with the first k of the hues beside it
-    Found(f32),
-    // nothing is placed at the floor
-    Nothing,
-    // refused by 1, 3, 4, 5, 7 or 8
-    Refused(Refusal),
-}
-
-// An answer with its sixteen hues, zeros after the first k, and all zero where nothing is found.
-pub struct Chosen {
-    pub answer: Answer,
-    pub hues: [u16; 16],
-}
 
 // Nothing is found.
 fn nothing() -> Chosen

@@ -3,15 +3,13 @@ use mathlib.Core.Path.{_≡_, sym, ap, _∙_}
 use mathlib.Core.Bool.{true}
 use mathlib.Core.List.{List, [], _∷_}
 use lib.Ieee.{Float}
-use Rattle.limits.specs.Answers.{Said, refused}
-use Rattle.limits.specs.Refusals.{number}
+use Rattle.limits.specs.Answers.{Said, refused, pass}
+use Rattle.limits.specs.Refusals.{number, checkSaid}
 use Rattle.limits.specs.Taken.{hueCountTaken, chromaTaken, directionsTaken}
 use Rattle.limits.specs.declared.Refusal.{Refusal}
 use Rattle.limits.proofs.Checks.{Check, check, all-pass, said, failing}
-use Rattle.placement.specs.declared.Checked.{Checked}
-use Rattle.placement.specs.declared.Checked.the-variants.{Fine, Wrong}
-use Rattle.placement.specs.Placing.{checkSaid}
-use Rattle.placement.proofs.Checking.{pass}
+use Rattle.limits.specs.declared.Checked.{Checked}
+use Rattle.limits.specs.declared.Checked.the-variants.{Fine, Wrong}
 use Rattle.palette.specs.declared.Design.{Design}
 use Rattle.palette.specs.Derivation.{huesTaken, levelsTaken, designChecked}
 use Rattle.palette.specs.Inner.{Ready}

@@ -9,7 +9,7 @@ use Rattle.limits.specs.Taken.{f32Of}
 use Rattle.color.specs.declared.Srgb8.{Srgb8}
 use Rattle.color.specs.Color.{srgb8ToLab, chromaOf}
 use Rattle.color.specs.Hue.{colorHue}
-use Rattle.pair.specs.Rows.{lesser, greater}
+use Rattle.pair_rules.specs.Rows.{lesser, greater}
 use Rattle.palette.specs.declared.Metrics.{Metrics}
 
 -- ---- folds

@@ -2,8 +2,8 @@
 // of crates/lcr-core/src/palette.rs, with lent directions.
 use color::Srgb8;
 use gamut::Gamut;
+use limits::Checked;
 use limits::Refusal;
-use placement::Checked;
 ghost use mathlib.Core.Path.{_≡_};
 ghost use mathlib.Core.Bool.{true, false};
 ghost use Prim.Native.Nat.{_≤_};
@@ -11,9 +11,9 @@ ghost use lib.Ieee.{inf, binary32, sub};
 ghost use lib.ListN.{take, drop, replicate};
 ghost use Rattle.limits.specs.Answers.{value};
 ghost use Rattle.limits.specs.Taken.{chromaTaken, directionsTaken};
-ghost use Rattle.placement.specs.Placing.{checkSaid};
+ghost use Rattle.limits.specs.Refusals.{checkSaid};
 ghost use Rattle.color.specs.Hue.{colorHue};
-ghost use Rattle.pair.specs.Rows.{greater};
+ghost use Rattle.pair_rules.specs.Rows.{greater};
 ghost use Rattle.palette.specs.Derivation.{huesTaken, designChecked, black, colorsOf, derivationSays, derivationSaid, colorsBeside};
 ghost use Rattle.palette.specs.Metrics.{highest, lowest, greatest, least, lightnessOf, chromaIn, spreadIn, absolute, apart, leastFrom, leastApart, metricsOf};
 ghost use Rattle.palette.specs.Validation.{findings, firstOf, validationSays, verdictSaid, validationSaid, findingNumber};

@@ -2,25 +2,20 @@
 use mathlib.Core.Path.{_≡_, refl, sym, ap, _∙_, subst}
 use mathlib.Core.Bool.{Bool, true, false}
 use mathlib.Core.List.{List}
-use Prim.Native.Nat.{ℕ, zero, suc, _+_, _-_, _*_, _%_, _≤_, _<_}
-use native.Mathlib.Nat.{mod-mod}
+use Prim.Native.Nat.{ℕ, zero, suc, _+_, _-_, _*_, _≤_, _<_}
 use native.Mathlib.Omega.{arith}
-use lib.Ieee.{Float, nan, le}
-use lib.ListN.{length, getD}
+use lib.Ieee.{Float}
+use lib.ListN.{length}
 use Rattle.limits.specs.Answers.{Said, value, refused}
 use Rattle.limits.proofs.Floats.{never}
-use Rattle.placement.specs.declared.Answer.{Answer}
-use Rattle.placement.specs.declared.Answer.the-variants.{Placed, Nowhere, Refused}
-use Rattle.placement.specs.Ring.{Places, nowhere, placed, orElse, fromStart, firstFrom, reduced, placement}
-use Rattle.placement.specs.Placing.{allowedAt, sixteen, answers, isPlaced}
+use Rattle.placement_rules.specs.declared.Answer.{Answer}
+use Rattle.placement_rules.specs.declared.Answer.the-variants.{Placed, Nowhere, Refused}
+use Rattle.placement_rules.specs.Ring.{Places, nowhere, placed, orElse, fromStart, firstFrom, reduced, placement}
+use Rattle.placement_rules.specs.Placing.{allowedAt, sixteen, answers, isPlaced}
 use Rattle.placement.specs.Inner.{Asked}
-use Rattle.placement.proofs.Chain.{Some}
-use Rattle.placement.proofs.Laws.{few-starts}
-
--- whether an index is allowed does not depend on how often the ring was gone round
-pub round : (row : List Float) (c : Float) (i : ℕ) → allowedAt row c (i % length row) ≡ allowedAt row c i
-unfolding allowedAt
-round row c i = ap (λ (x : ℕ). le c (getD row x nan)) (mod-mod i (length row))
+use Rattle.placement_rules.proofs.Chain.{Some}
+use Rattle.placement_rules.proofs.Laws.{few-starts}
+use Rattle.placement_rules.proofs.Allowed.{round}
 
 -- ---- an answer that gives places
 apart : {A : Type 0} (a b : Places) → value a ≡ value b → (a ≡ b → A) → A

@@ -1,9 +1,4 @@
-pub mod Earliest
-pub mod Chain
-pub mod Sorted
-pub mod Laws
 pub mod Table
 pub mod Placing
 pub mod First
 pub mod Checking
-pub mod Stored

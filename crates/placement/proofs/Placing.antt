@@ -8,12 +8,12 @@ use lib.Dec.{leb, ltb}
 use lib.ListN.{length, getD, set, replicate}
 use borrow.Author.Tests.{le-ltb, lt-ltb, le-leb, lt-leb}
 use Rattle.limits.specs.Answers.{Said, value}
-use Rattle.placement.specs.declared.Placement.{Placement}
-use Rattle.placement.specs.declared.Answer.the-variants.{Placed}
-use Rattle.placement.specs.Ring.{Places, nowhere, placed, before, earliest, onward, fromStart, reduced}
-use Rattle.placement.specs.Placing.{stores, sixteen, huesBeside, answers}
+use Rattle.placement_rules.specs.declared.Placement.{Placement}
+use Rattle.placement_rules.specs.declared.Answer.the-variants.{Placed}
+use Rattle.placement_rules.specs.Ring.{Places, nowhere, placed, before, earliest, onward, fromStart, reduced}
+use Rattle.placement_rules.specs.Placing.{stores, sixteen, huesBeside, answers}
 use Rattle.placement.specs.Inner.{Gives}
-use Rattle.placement.proofs.Earliest.{from, nearer-same, nearer-none}
+use Rattle.placement_rules.proofs.Earliest.{from, nearer-same, nearer-none}
 
 -- the indices reduced by n and stored into the hues from place t on
 abbrev pub stored : ℕ → List ℕ → ℕ → Places → Places

@@ -9,11 +9,11 @@ use native.Mathlib.Omega.{arith}
 use lib.Ieee.{Float, nan, le}
 use lib.ListN.{length, getD, set, length-set}
 use lib.Seq.{getD-set-same, getD-set-other}
-use Rattle.placement.specs.Ring.{earliest}
-use Rattle.placement.specs.Placing.{allowedAt}
+use Rattle.placement_rules.specs.Ring.{earliest}
+use Rattle.placement_rules.specs.Placing.{allowedAt}
 use Rattle.placement.specs.Inner.{Stands, Filled}
-use Rattle.placement.proofs.Earliest.{below-or-not}
-use Rattle.placement.proofs.Earliest as first
+use Rattle.placement_rules.proofs.Earliest.{below-or-not}
+use Rattle.placement_rules.proofs.Earliest as first
 
 module _ (row : List Float) (c : Float) where
   -- an index of either lap, reduced

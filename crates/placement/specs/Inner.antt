@@ -7,11 +7,11 @@ use mathlib.Core.Logic.{_⊎_}
 use lib.Ieee.{Float}
 use lib.ListN.{length, getD}
 use Rattle.limits.specs.Answers.{Said, value}
-use Rattle.placement.specs.declared.Answer.{Answer}
-use Rattle.placement.specs.declared.Answer.the-variants.{Placed, Nowhere, Refused}
-use Rattle.placement.specs.declared.Placement.{Placement}
-use Rattle.placement.specs.Ring.{Places, earliest}
-use Rattle.placement.specs.Placing.{allowedAt, sixteen, huesBeside, answers}
+use Rattle.placement_rules.specs.declared.Answer.{Answer}
+use Rattle.placement_rules.specs.declared.Answer.the-variants.{Placed, Nowhere, Refused}
+use Rattle.placement_rules.specs.declared.Placement.{Placement}
+use Rattle.placement_rules.specs.Ring.{Places, earliest}
+use Rattle.placement_rules.specs.Placing.{allowedAt, sixteen, huesBeside, answers}
 
 -- arguments that are taken
 pub record Asked (row : List Float) (k step : ℕ) : Type 0 where

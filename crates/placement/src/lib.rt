@@ -1,38 +1,19 @@
 // k hues on a ring, at a chroma: `feasible` and `place_from` of xtask/src/palette.rs, and the step for k.
+use limits::Checked;
 use limits::Refusal;
+pub use placement_rules::Answer;
+pub use placement_rules::Placement;
+pub use placement_rules::Stepping;
 ghost use mathlib.Core.Path.{_≡_};
 ghost use mathlib.Core.Bool.{_&&_};
 ghost use Prim.Native.Nat.{ℕ, _+_, _%_, _≤_, _<_};
 ghost use lib.Dec.{leb};
 ghost use lib.ListN.{length};
 ghost use Rattle.limits.specs.Answers.{value, refused};
-ghost use Rattle.placement.specs.Ring.{nowhere, reduced, fromStart, placement};
-ghost use Rattle.placement.specs.Placing.{allowedAt, checked, checkSaid, placementSays, huesBeside, answers, isPlaced, stepSaid, stepSays};
+ghost use Rattle.limits.specs.Refusals.{checkSaid};
+ghost use Rattle.placement_rules.specs.Ring.{nowhere, reduced, fromStart, placement};
+ghost use Rattle.placement_rules.specs.Placing.{allowedAt, checked, placementSays, huesBeside, answers, isPlaced, stepSaid, stepSays};
 ghost use Rattle.placement.specs.Inner.{Asked, Stands, Filled, LapAsked, Gives};
-
-// Whether the hues were placed.
-pub enum Answer {
-    // the first k of the hues beside it
-    Placed,
-    // no placement exists
-    Nowhere,
-    // refused by 1, 3, 4, 5, 7 or 8
-    Refused(Refusal),
-}
-
-// An answer with its sixteen hues, zeros after the first k, and all zero where nothing is placed.
-pub struct Placement {
-    pub answer: Answer,
-    pub hues: [u16; 16],
-}
-
-// The step for a hue count, or why there is none.
-pub enum Stepping {
-    // ceil(600 / k) + 1
-    Is(usize),
-    // refused by 1
-    Declined(Refusal),
-}
 
 // How far apart k hues must be, in half degrees.
 pub fn step_for(k: usize) -> Stepping
@@ -42,14 +23,6 @@ pub fn step_for(k: usize) -> Stepping
         return Stepping::Is((600 + (k - 1)) / k + 1);
     }
     Stepping::Declined(Refusal::HueCount)
-}
-
-// Whether the arguments of a placement are taken.
-pub enum Checked {
-    // all of them
-    Fine,
-    // the first refusal that applies
-    Wrong(Refusal),
 }
 
 // Nothing is placed.

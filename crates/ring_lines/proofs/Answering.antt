@@ -6,8 +6,8 @@ use native.Mathlib.Nat.{sub-zero}
 use lib.Ieee.{Float}
 use lib.ListN.{take, drop}
 use Rattle.limits.specs.Answers.{Said, refused}
-use Rattle.placement.specs.Ring.{Places}
-use Rattle.placement.specs.Placing.{placementSays}
+use Rattle.placement_rules.specs.Ring.{Places}
+use Rattle.placement_rules.specs.Placing.{placementSays}
 use Rattle.ring_lines.specs.declared.reading.Reading.{Reading}
 use Rattle.ring_lines.specs.declared.reading.Reading.the-variants.{Malformed, Asks}
 use Rattle.ring_lines.specs.Fields.{malformed, asks, lineOf}

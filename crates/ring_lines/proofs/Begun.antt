@@ -5,7 +5,7 @@ use Prim.Native.Nat.{ℕ, _≤_}
 use native.Mathlib.Omega.{arith}
 use lib.ListN.{length, take}
 use Rattle.limits.specs.Answers.{Said, value, refused}
-use Rattle.placement.specs.Ring.{Places, nowhere, placed}
+use Rattle.placement_rules.specs.Ring.{Places, nowhere, placed}
 use Rattle.ring_lines.specs.Numbers.{decimal}
 use Rattle.ring_lines.specs.Answers.{answerText, answerBytes, parted}
 use Rattle.ring_lines.specs.Promised.{Written}

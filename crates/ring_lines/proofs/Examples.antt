@@ -3,8 +3,8 @@ use mathlib.Core.Path.{_≡_, refl}
 use mathlib.Core.List.{[]}
 use lib.Ieee.{ofInt, le, lt, isNan}
 use Rattle.limits.specs.Taken.{signBit, signClear, hueCountTaken, upTo, chromaTaken, entryTaken, every}
-use Rattle.placement.specs.Ring.{earliest, onward, fromStart, firstFrom, placement}
-use Rattle.placement.specs.Placing.{allowedAt, workNeeded, stores, checked, placementSays}
+use Rattle.placement_rules.specs.Ring.{earliest, onward, fromStart, firstFrom, placement}
+use Rattle.placement_rules.specs.Placing.{allowedAt, workNeeded, stores, checked, placementSays}
 use Rattle.ring_lines.specs.Numbers.{isDigit, isLeading, numberOf, decimal}
 use Rattle.ring_lines.specs.Fields.{cut, linesOf, fieldsOf, numbersOf, lineOf}
 use Rattle.ring_lines.specs.Answers.{lineSays, afterCommas, parted, answerText, answerBytes, answerOf, answersTo, answersOf}

@@ -3,8 +3,8 @@ use Prim.Native.Nat.{ℕ}
 use mathlib.Core.List.{List, [], _∷_, _++_}
 use lib.ListN.{take}
 use Rattle.limits.specs.Answers.{Said, value, refused}
-use Rattle.placement.specs.Ring.{Places, nowhere, placed}
-use Rattle.placement.specs.Placing.{placementSays}
+use Rattle.placement_rules.specs.Ring.{Places, nowhere, placed}
+use Rattle.placement_rules.specs.Placing.{placementSays}
 use Rattle.ring_lines.specs.Numbers.{decimal}
 use Rattle.ring_lines.specs.Fields.{Line, malformed, asks, lineOf, linesOf}
 

@@ -10,7 +10,7 @@ ghost use Prim.Native.Nat.{_≤_};
 ghost use lib.ListN.{length};
 ghost use Rattle.limits.specs.Answers.{refused};
 ghost use Rattle.limits.specs.Refusals.{number};
-ghost use Rattle.placement.specs.Placing.{answers};
+ghost use Rattle.placement_rules.specs.Placing.{answers};
 ghost use Rattle.ring_lines.specs.Answers.{room, answerText, answerBytes, answerOf};
 ghost use Rattle.ring_lines.specs.Promised.{Written};
 ghost use Rattle.ring_lines.specs.Text.{Begun};

@@ -2,23 +2,27 @@
 use mathlib.Core.Path.{_≡_, refl, sym, ap, _∙_}
 use mathlib.Core.Bool.{Bool, true, false, _&&_, cond}
 use mathlib.Core.List.{List, [], _∷_}
-use Prim.Native.Nat.{ℕ, _+_, _-_, _*_, _<_}
+use Prim.Native.Nat.{ℕ, _+_, _-_, _*_}
 use native.Mathlib.Omega.{arith}
 use lib.Ieee.{Float}
-use lib.ListN.{length, take, drop, length-take, length-drop}
+use lib.ListN.{take, drop}
 use Rattle.limits.specs.Answers.{Said, value, refused}
 use Rattle.limits.specs.Refusals.{number}
 use Rattle.limits.specs.Taken.{entryTaken, every}
 use Rattle.limits.specs.declared.Refusal.{Refusal}
-use Rattle.placement.specs.Placing.{stepFor}
-use Rattle.pair.specs.declared.Answer.{Answer}
-use Rattle.pair.specs.declared.Answer.the-variants.{Found, Nothing, Refused}
-use Rattle.pair.specs.Rows.{leastRow}
-use Rattle.pair.specs.Pair.{Best, bestOver, rowsSay, pairSays, answers}
-use Rattle.search.specs.declared.Job.{Job}
-use Rattle.search.specs.Job.{rowAt, floorOf, qualifies, beats, movedOn, replaced, afterPair, pairBest, searched}
+use Rattle.gamut.specs.Table.{rowAt}
+use Rattle.gamut.proofs.Table.{row-long}
+use Rattle.placement_rules.specs.Placing.{stepFor}
+use Rattle.pair_rules.specs.declared.Answer.{Answer}
+use Rattle.pair_rules.specs.declared.Answer.the-variants.{Found, Nothing, Refused}
+use Rattle.pair_rules.specs.Rows.{leastRow}
+use Rattle.pair_rules.specs.Pair.{Best, bestOver, rowsSay, pairSays, answers}
+use Rattle.search_rules.specs.declared.Job.{Job}
+use Rattle.search_rules.specs.Job.{floorOf, qualifies, beats, movedOn, replaced, afterPair, pairBest, searched}
 use Rattle.search.specs.Inner.{pairGiven, Stepped}
-use Rattle.search.proofs.Sound.{sound, floor-taken, step-taken, rows-left}
+use Rattle.search_rules.proofs.Unbroken.{sound}
+use Rattle.search_rules.proofs.Floor.{floor-taken}
+use Rattle.search_rules.proofs.Rows.{step-taken, rows-left}
 
 -- ---- the rows
 -- a row as the code lends it
@@ -28,10 +32,6 @@ part table i = take (i * 720 + 720 - i * 720) (drop (i * 720) table)
 part-row : (table : List Float) (i : ℕ) → part table i ≡ rowAt table i
 unfolding rowAt
 part-row table i = let e : i * 720 + 720 - i * 720 ≡ 720 = omega arith in ap (λ (n : ℕ). take n (drop (i * 720) table)) e
-
-row-long : (table : List Float) (levels i : ℕ) → length table ≡ levels * 720 → i < levels → length (rowAt table i) ≡ 720
-unfolding rowAt
-row-long table levels i e h = simp (length-take, length-drop) (omega arith)
 
 -- what `pair` says of the two rows
 pub pair-says :

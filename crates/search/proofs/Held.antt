@@ -9,7 +9,7 @@ use lib.Dec.{leb, eqb}
 use lib.ListN.{length, getD, drop, drop-of-length-le}
 use lib.Seq.{drop-cons}
 use borrow.Author.Tests.{le-leb, lt-leb, eq-eqb, ne-eqb}
-use Rattle.search.specs.Job.{huesHeld}
+use Rattle.search_rules.specs.Job.{huesHeld}
 
 -- what is left at an index, and from it on
 abbrev left : ℕ → List ℕ → ℕ → Bool

@@ -1,12 +1,4 @@
-pub mod Apart
 pub mod Checking
 pub mod Held
-pub mod Sound
-pub mod Tests
-pub mod Laws
 pub mod Going
 pub mod Giving
-pub mod Runs
-pub mod Accepted
-pub mod Goes
-pub mod Example

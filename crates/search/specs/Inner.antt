@@ -7,10 +7,12 @@ use lib.Ieee.{Float}
 use lib.ListN.{length}
 use Rattle.limits.specs.Answers.{Said, value, refused}
 use Rattle.limits.specs.Taken.{entryTaken, every}
-use Rattle.pair.specs.declared.Answer.{Answer}
-use Rattle.pair.specs.Pair.{Best, answers, huesBeside}
-use Rattle.search.specs.declared.Job.{Job}
-use Rattle.search.specs.Job.{rowAt, unbroken, pairBest}
+use Rattle.gamut.specs.Table.{rowAt}
+use Rattle.placement_rules.specs.Placing.{workNeeded}
+use Rattle.pair_rules.specs.declared.Answer.{Answer}
+use Rattle.pair_rules.specs.Pair.{Best, answers, huesBeside}
+use Rattle.search_rules.specs.declared.Job.{Job}
+use Rattle.search_rules.specs.Job.{unbroken, pairBest}
 
 -- what a pair's answer says, with its hues
 abbrev pub pairAnswers : Answer → List ℕ → Said Best
@@ -27,7 +29,7 @@ pairGiven j table d l = cond (every entryTaken (rowAt table d) && every entryTak
 pub record Stepped (j : Job) (table : List Float) (room dark light : ℕ) : Type 0 where
   pub sound : unbroken j ≡ true
   pub long : length table ≡ j .levels * 720
-  pub room-enough : 2160 ≤ room
+  pub room-enough : workNeeded 720 ≤ room
   pub dark-in : dark < j .levels
   pub light-in : light < j .levels
   pub unfinished : j .position < 28561

@@ -1,71 +1,25 @@
 // The job that searches every pair of levels, a step at a time: `search` of xtask/src/palette.rs, with stepping added.
 use gamut::Gamut;
+use limits::Checked;
 use limits::Refusal;
 use pair::Chosen;
-use placement::Checked;
 use placement::Stepping;
+pub use search_rules::Answer;
+pub use search_rules::Best;
+pub use search_rules::Job;
+pub use search_rules::Outcome;
+pub use search_rules::Settings;
 ghost use mathlib.Core.Path.{_≡_};
 ghost use mathlib.Core.Bool.{true};
 ghost use Prim.Native.Nat.{ℕ, _<_};
 ghost use lib.ListN.{length};
 ghost use Rattle.limits.specs.Answers.{value, refused};
-ghost use Rattle.limits.specs.Refusals.{number};
+ghost use Rattle.limits.specs.Refusals.{number, checkSaid};
 ghost use Rattle.limits.specs.Taken.{hueCountTaken};
-ghost use Rattle.placement.specs.Placing.{stepFor, checkSaid};
-ghost use Rattle.search.specs.declared.Job.{Job};
-ghost use Rattle.search.specs.Job.{tableTaken, begun, startChecked, startSays, bestHeld, handed, huesHeld, unbroken, qualifies, floorOf, beats, movedOn, replaced, searched, stepChecked, stepSays, stepsFrom, searchSays, Gives};
+ghost use Rattle.placement_rules.specs.Placing.{stepFor};
+ghost use Rattle.search_rules.specs.declared.Job.{Job};
+ghost use Rattle.search_rules.specs.Job.{begun, startChecked, startSays, bestHeld, handed, huesHeld, unbroken, qualifies, floorOf, beats, movedOn, replaced, searched, stepChecked, stepSays, stepsFrom, searchSays, Gives};
 ghost use Rattle.search.specs.Inner.{pairAnswers, pairHues, pairGiven, Stepped};
-
-// What a start sets.
-pub struct Settings {
-    // how many hues
-    pub k: usize,
-    // how far apart the two levels must be, less 1
-    pub gap: f32,
-}
-
-// The best so far; its hues stand beside it in the job.
-pub enum Best {
-    // none so far
-    None,
-    // a chroma, with the dark and the light level index
-    Found(f32, usize, usize),
-}
-
-// A search, as it stands after some of its steps.
-pub struct Job {
-    pub settings: Settings,
-    // how many levels the table has
-    pub levels: usize,
-    // how many pairs were gone through
-    pub position: usize,
-    pub best: Best,
-    // zeros after the first k, and all zero where there is none so far
-    pub hues: [u16; 16],
-}
-
-// Whether a call was accepted.
-pub enum Answer {
-    // the job beside it is the new one
-    Accepted,
-    // the job beside it is the one that was lent
-    Refused(Refusal),
-}
-
-// An answer with the job after the call.
-pub struct Outcome {
-    pub answer: Answer,
-    pub job: Job,
-}
-
-// Whether a slice is taken as a table, by its length.
-fn takes_table(table: &[f32]) -> bool
-    ensures { λ r. ⌜ r ≡ tableTaken (now (table .entry)) ⌝ }
-{
-    let n = table.len();
-    let levels = n / Gamut::HUES;
-    n == levels * Gamut::HUES && 1 <= levels && levels <= Gamut::LEVELS
-}
 
 // A call that is refused, with the job as it was.
 fn refuse(why: Refusal, job: Job) -> Outcome
@@ -97,7 +51,7 @@ fn check_start(settings: Settings, table: &[f32]) -> Checked
     if !limits::takes_gap(settings.gap) {
         return Checked::Wrong(Refusal::Gap);
     }
-    if !takes_table(table) {
+    if !gamut::takes_table(table) {
         return Checked::Wrong(Refusal::TableLength);
     }
     if !limits::takes_entries(table) {

@@ -5,8 +5,8 @@ use Prim.Native.Nat.{ℕ}
 use lib.Ieee.{Float}
 use borrow.Author.Needs.{needs}
 use Rattle.limits.specs.Answers.{Said, value, refused}
-use Rattle.pair.specs.declared.Answer.{Answer}
-use Rattle.pair.specs.Pair.{Best, none, found, huesBeside, answers}
+use Rattle.pair_rules.specs.declared.Answer.{Answer}
+use Rattle.pair_rules.specs.Pair.{Best, none, found, huesBeside, answers}
 use Rattle.exports.specs.Numbers.{bestNumber, bestHues, bestChroma}
 use Rattle.exports.proofs.tengcuvo_best.Statement.{statement}
 use Rattle.exports.proofs.tengcuvo_best.Tie as tie

@@ -4,9 +4,9 @@ use mathlib.Core.List.{List}
 use Prim.Native.Nat.{ℕ}
 use borrow.Author.Needs.{needs}
 use Rattle.limits.specs.Answers.{Said, value, refused}
-use Rattle.placement.specs.declared.Answer.{Answer}
-use Rattle.placement.specs.Ring.{Places, nowhere, placed}
-use Rattle.placement.specs.Placing.{huesBeside, answers}
+use Rattle.placement_rules.specs.declared.Answer.{Answer}
+use Rattle.placement_rules.specs.Ring.{Places, nowhere, placed}
+use Rattle.placement_rules.specs.Placing.{huesBeside, answers}
 use Rattle.exports.specs.Numbers.{placeNumber, huesAfter}
 use Rattle.exports.proofs.tengcuvo_place.Statement.{statement}
 use Rattle.exports.proofs.tengcuvo_place.Tie as tie

@@ -5,11 +5,11 @@ use Prim.Native.Nat.{ℕ}
 use lib.Ieee.{Float}
 use borrow.Author.Needs.{needs}
 use Rattle.limits.specs.Answers.{Said, value, refused}
-use Rattle.search.specs.declared.Answer.{Answer}
-use Rattle.search.specs.declared.Best.{Best}
-use Rattle.search.specs.declared.Best.the-variants.{None, Found}
-use Rattle.search.specs.declared.Job.{Job}
-use Rattle.search.specs.Job.{answers}
+use Rattle.search_rules.specs.declared.Answer.{Answer}
+use Rattle.search_rules.specs.declared.Best.{Best}
+use Rattle.search_rules.specs.declared.Best.the-variants.{None, Found}
+use Rattle.search_rules.specs.declared.Job.{Job}
+use Rattle.search_rules.specs.Job.{answers}
 use Rattle.exports.specs.Numbers.{handed, bestHands, searchHands}
 use Rattle.exports.proofs.tengcuvo_search.Statement.{statement}
 use Rattle.exports.proofs.tengcuvo_search.Tie as tie

@@ -8,10 +8,10 @@ use native.Mathlib.Omega.{arith}
 use lib.Ieee.{Float, lt}
 use lib.ListN.{length, take, length-append}
 use lib.Seq.{take-at}
-use Rattle.pair.specs.Rows.{leastRow, largest}
-use Rattle.pair.specs.Pair.{bestOver}
+use Rattle.pair_rules.specs.Rows.{leastRow, largest}
+use Rattle.pair_rules.specs.Pair.{bestOver}
 use Rattle.pair.specs.Inner.{Ready, Gives}
-use Rattle.pair.proofs.Rows.{least-long}
+use Rattle.pair_rules.proofs.Rows.{least-long}
 use Rattle.pair.proofs.Checking.{short, least-checked, two-alike}
 use Rattle.pair.proofs.Climbing.{too-high}
 use borrow.Author.Needs.{needs}

@@ -3,8 +3,8 @@ use mathlib.Core.Path.{refl, sym, ap, _∙_}
 use mathlib.Core.List.{[], _∷_}
 use denote.Ref.{now}
 use lib.ListN.{length}
-use Rattle.placement.proofs.Checking.{said-twice}
-use Rattle.pair.specs.Pair.{huesBeside}
+use Rattle.limits.proofs.Checks.{said-twice}
+use Rattle.pair_rules.specs.Pair.{huesBeside}
 use Rattle.pair.proofs.Checking.{passed, passing, refusing}
 use borrow.Author.Needs.{needs}
 use Rattle.pair.proofs.best_for_levels.Statement.{statement}

@@ -12,8 +12,8 @@ use borrow.Author.Needs.{needs}
 use borrow.Author.Tests.{not-true, not-false}
 use Rattle.halving.specs.Midpoint.{midpoint}
 use Rattle.halving.proofs.Meeting.{Met, no-nan}
-use Rattle.placement.specs.Placing.{placementSays, answers}
-use Rattle.pair.specs.Pair.{placeable}
+use Rattle.placement_rules.specs.Placing.{placementSays, answers}
+use Rattle.pair_rules.specs.Pair.{placeable}
 use Rattle.pair.specs.Inner.{Gives}
 use Rattle.pair.proofs.Climbing.{There, Climbed, floor-met, most-met, placed-at, not-placed-at, begin, mid-met, up, down, at-last, at-low, at-high, none-there}
 use Rattle.pair.proofs.climb.Statement.{statement}

@@ -10,8 +10,8 @@ use lib.Ieee.{Float, nan, ofBits, ofInt}
 use lib.ListN.{length, getD, drop, length-set}
 use lib.Seq.{getD-set-same, getD-set-other}
 use borrow.Author.Count.{below-none, below-more}
-use Rattle.pair.specs.Rows.{lesser, greater, valueAt, leastRow, largestFrom, largest}
-use Rattle.pair.proofs.Rows.{least-long, least-at, least-is, of-two, largest-next, largest-done}
+use Rattle.pair_rules.specs.Rows.{lesser, greater, valueAt, leastRow, largestFrom, largest}
+use Rattle.pair_rules.proofs.Rows.{least-long, least-at, least-is, of-two, largest-next, largest-done}
 use Rattle.pair.proofs.lesser_row.Statement.{statement}
 use Rattle.pair.proofs.lesser_row.Tie as tie
 

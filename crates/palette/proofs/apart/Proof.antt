@@ -2,7 +2,7 @@
 use mathlib.Core.Path.{sym}
 use borrow.Author.Needs.{needs}
 use lib.Ieee.{ofBits, ofInt}
-use Rattle.pair.specs.Rows.{lesser}
+use Rattle.pair_rules.specs.Rows.{lesser}
 use Rattle.palette.specs.Metrics.{apart}
 use Rattle.palette.proofs.apart.Statement.{statement}
 use Rattle.palette.proofs.apart.Tie as tie

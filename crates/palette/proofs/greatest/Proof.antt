@@ -5,7 +5,7 @@ use Prim.Native.Nat.{_+_, _-_, _≤_}
 use native.Mathlib.Omega.{arith}
 use lib.Ieee.{Float, nan, ofBits, round}
 use lib.ListN.{length, getD, drop}
-use Rattle.pair.specs.Rows.{greater}
+use Rattle.pair_rules.specs.Rows.{greater}
 use Rattle.palette.specs.Metrics.{lowest, greatest}
 use Rattle.palette.proofs.Folds.{fold-next, fold-done}
 use Rattle.palette.proofs.greatest.Statement.{statement}

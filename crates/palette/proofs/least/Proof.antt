@@ -5,7 +5,7 @@ use Prim.Native.Nat.{_+_, _-_, _≤_}
 use native.Mathlib.Omega.{arith}
 use lib.Ieee.{Float, nan}
 use lib.ListN.{length, getD, drop}
-use Rattle.pair.specs.Rows.{lesser}
+use Rattle.pair_rules.specs.Rows.{lesser}
 use Rattle.palette.specs.Metrics.{least}
 use Rattle.palette.proofs.Folds.{fold-next, fold-done}
 use Rattle.palette.proofs.least.Statement.{statement}

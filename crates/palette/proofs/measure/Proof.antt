@@ -10,7 +10,7 @@ use borrow.Author.Tests.{le-leb, lt-leb}
 use Rattle.limits.proofs.HueCount.{hue-count}
 use Rattle.color.specs.declared.Srgb8.{Srgb8}
 use Rattle.color.specs.Hue.{colorHue}
-use Rattle.pair.specs.Rows.{greater}
+use Rattle.pair_rules.specs.Rows.{greater}
 use Rattle.palette.specs.Metrics.{highest, lowest, greatest, least, lightnessOf, chromaIn, gapOf, spreadIn, spreadOf, leastApart, separationOf, leastChroma, metricsOf}
 use Rattle.palette.specs.Inner.{Measured}
 use Rattle.palette.proofs.Filling.{dark-is, light-is}

@@ -6,7 +6,7 @@ use Prim.Native.Nat.{ℕ, _+_, _-_}
 use lib.Ieee.{Float, lt}
 use lib.ListN.{take, drop}
 use borrow.Author.Needs.{needs}
-use Rattle.pair.specs.Rows.{greater}
+use Rattle.pair_rules.specs.Rows.{greater}
 use Rattle.palette.specs.Metrics.{spreadIn}
 use Rattle.palette.proofs.Lent.{dark-part, light-part}
 use Rattle.palette.proofs.spread_of.Statement.{statement}

@@ -11,7 +11,7 @@ use borrow.Author.Needs.{needs}
 use borrow.Author.Tests.{le-leb, lt-leb, not-true, not-false}
 use Rattle.limits.specs.Answers.{Said, value, refused}
 use Rattle.limits.specs.Taken.{hueCountTaken, chromaTaken, entryTaken, every}
-use Rattle.placement.specs.Placing.{workNeeded, checked}
+use Rattle.placement_rules.specs.Placing.{workNeeded, checked}
 use Rattle.placement.proofs.check.Statement.{statement}
 use Rattle.placement.proofs.check.Tie as tie
 

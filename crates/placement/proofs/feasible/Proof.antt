@@ -4,8 +4,9 @@ use native.Mathlib.Omega.{arith}
 use borrow.Author.Needs.{needs}
 use denote.Ref.{now}
 use lib.ListN.{length}
-use Rattle.placement.specs.Placing.{huesBeside}
-use Rattle.placement.proofs.Checking.{asked, passed, placing, refusing, said-twice}
+use Rattle.limits.proofs.Checks.{said-twice}
+use Rattle.placement_rules.specs.Placing.{workNeeded, huesBeside}
+use Rattle.placement.proofs.Checking.{asked, passed, placing, refusing}
 use Rattle.placement.proofs.feasible.Statement.{statement}
 use Rattle.placement.proofs.feasible.Tie as tie
 use Rattle.placement.proofs.feasible.Reads as reads
@@ -23,6 +24,7 @@ enum-told : tie.Need-enum-told
 enum-told c = search needs
 
 place-requires : tie.Need-place-requires
+unfolding workNeeded
 place-requires c κs =
     let a = c .before .before .before .before .before .before .args in
     let fine = asked (a .k) (a .step) (a .c) (now (a .m)) (length (now (a .work))) (passed (a .k) (a .step) (a .c) (now (a .m)) (length (now (a .work))) (c .before .before .before .check .result) (c .before .enum-told .given .1) (c .before .before .before .check .ensures)) in

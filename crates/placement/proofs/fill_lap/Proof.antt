@@ -7,7 +7,7 @@ use native.Mathlib.Omega.{arith}
 use lib.Ieee.{le, nan}
 use lib.ListN.{length, getD, set, length-set}
 use borrow.Author.Needs.{needs}
-use Rattle.placement.specs.Placing.{allowedAt}
+use Rattle.placement_rules.specs.Placing.{allowedAt}
 use Rattle.placement.specs.Inner.{Stands, Filled, LapAsked}
 use Rattle.placement.proofs.Table.{allowed-there, here, skip, more}
 use Rattle.placement.proofs.fill_lap.Statement.{statement}

@@ -5,8 +5,8 @@ use native.Mathlib.Nat.{mul-le-mul, sub-zero}
 use native.Mathlib.Omega.{arith}
 use lib.ListN.{length}
 use borrow.Author.Needs.{needs}
-use Rattle.placement.specs.Ring.{Places, nowhere, fromStart, firstFrom, reduced, placement}
-use Rattle.placement.specs.Placing.{allowedAt, sixteen}
+use Rattle.placement_rules.specs.Ring.{Places, nowhere, fromStart, firstFrom, reduced, placement}
+use Rattle.placement_rules.specs.Placing.{allowedAt, sixteen}
 use Rattle.placement.specs.Inner.{Asked, Gives}
 use Rattle.placement.proofs.Placing.{gives-none}
 use Rattle.placement.proofs.First.{placed-there, not-placed-there, starts, found, onward, none}

@@ -10,11 +10,11 @@ use lib.Ieee.{le, nan}
 use lib.ListN.{length, getD, set, replicate, length-set}
 use borrow.Author.Needs.{needs}
 use borrow.Author.Tests.{not-true, not-false}
-use Rattle.placement.specs.declared.Placement.{Placement}
-use Rattle.placement.specs.Ring.{Places, nowhere, placed, before, onward, fromStart, reduced}
-use Rattle.placement.specs.Placing.{allowedAt, sixteen}
+use Rattle.placement_rules.specs.declared.Placement.{Placement}
+use Rattle.placement_rules.specs.Ring.{Places, nowhere, placed, before, onward, fromStart, reduced}
+use Rattle.placement_rules.specs.Placing.{allowedAt, sixteen}
 use Rattle.placement.specs.Inner.{Asked, Stands, Filled, Gives}
-use Rattle.placement.proofs.Earliest.{from}
+use Rattle.placement_rules.proofs.Earliest.{from}
 use Rattle.placement.proofs.Table.{allowed-there}
 use Rattle.placement.proofs.Placing.{stored, sixteen-stored, store-one, store-none, too-late, none-left, one-on, closed, open-end, at-start, not-there, gives, gives-none}
 use Rattle.placement.proofs.place_from.Statement.{statement}

@@ -7,7 +7,7 @@ use native.Mathlib.Omega.{arith}
 use borrow.Author.Needs.{needs}
 use Rattle.limits.specs.Taken.{hueCountTaken}
 use Rattle.limits.proofs.HueCount.{hue-count}
-use Rattle.placement.specs.Placing.{stepFor, stepSays}
+use Rattle.placement_rules.specs.Placing.{stepFor, stepSays}
 use Rattle.placement.proofs.step_for.Statement.{statement}
 use Rattle.placement.proofs.step_for.Tie as tie
 

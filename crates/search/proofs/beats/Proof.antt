@@ -1,7 +1,7 @@
 -- `search::beats` meets its contract: its two arms are those of the specification. Assumes nothing.
 use mathlib.Core.Path.{sym, ap}
 use borrow.Author.Needs.{needs}
-use Rattle.search.specs.Job.{beats}
+use Rattle.search_rules.specs.Job.{beats}
 use Rattle.search.proofs.beats.Statement.{statement}
 use Rattle.search.proofs.beats.Tie as tie
 

@@ -2,8 +2,8 @@
 use mathlib.Core.Path.{ap, _∙_}
 use lib.ListN.{length}
 use borrow.Author.Needs.{needs}
-use Rattle.pair.specs.Pair.{huesBeside}
-use Rattle.search.proofs.Sound.{sound}
+use Rattle.pair_rules.specs.Pair.{huesBeside}
+use Rattle.search_rules.proofs.Unbroken.{sound}
 use Rattle.search.proofs.Going.{pair-says}
 use Rattle.search.proofs.best_of.Statement.{statement}
 use Rattle.search.proofs.best_of.Tie as tie

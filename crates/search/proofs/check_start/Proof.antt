@@ -6,9 +6,10 @@ use lib.Ieee.{Float}
 use borrow.Author.Needs.{needs}
 use borrow.Author.Tests.{not-true, not-false}
 use Rattle.limits.specs.Answers.{Said, value, refused}
-use Rattle.limits.specs.Taken.{hueCountTaken, gapTaken, entryTaken, every}
-use Rattle.search.specs.declared.Settings.{Settings}
-use Rattle.search.specs.Job.{tableTaken, startChecked}
+use Rattle.limits.specs.Taken.{hueCountTaken, entryTaken, every}
+use Rattle.gamut.specs.Table.{tableTaken}
+use Rattle.search_rules.specs.declared.Settings.{Settings}
+use Rattle.search_rules.specs.Job.{gapStarts, startChecked}
 use Rattle.search.proofs.check_start.Statement.{statement}
 use Rattle.search.proofs.check_start.Tie as tie
 
@@ -21,11 +22,11 @@ module _ (s : Settings) (table : List Float) where
   first f = rw f
 
   module _ (one : hueCountTaken (s .k) ≡ true) where
-    second : gapTaken (s .gap) ≡ false → refused 2 ≡ said
+    second : gapStarts (s .gap) ≡ false → refused 2 ≡ said
     unfolding startChecked
     second f = rw (one, f)
 
-    module _ (two : gapTaken (s .gap) ≡ true) where
+    module _ (two : gapStarts (s .gap) ≡ true) where
       third : tableTaken table ≡ false → refused 6 ≡ said
       unfolding startChecked
       third f = rw (one, two, f)
@@ -54,7 +55,7 @@ takes-gap-requires c κs = search needs
 returns-2 : tie.Need-returns-2
 returns-2 c = second _ _ (one (c .before .before)) (sym (c .before .takes-gap .ensures) ∙ not-true _ (c .if2 .taken))
 
-two : (c : tie.Else2) → gapTaken (c .before .before .before .before .before .args .settings .gap) ≡ true
+two : (c : tie.Else2) → gapStarts (c .before .before .before .before .before .args .settings .gap) ≡ true
 two c = sym (c .before .takes-gap .ensures) ∙ not-false _ (c .if2 .left)
 
 takes-table-requires : tie.Need-takes-table-requires

@@ -6,10 +6,10 @@ use native.Mathlib.Omega.{arith}
 use borrow.Author.Needs.{needs}
 use borrow.Author.Tests.{lt-ltb, le-ltb, le-leb, lt-leb, eq-eqb, ne-eqb, not-true, not-false}
 use Rattle.limits.specs.Answers.{Said, value, refused}
-use Rattle.placement.specs.Placing.{workNeeded}
-use Rattle.search.specs.declared.Job.{Job}
-use Rattle.search.specs.Job.{unbroken, stepChecked}
-use Rattle.search.proofs.Sound.{sound, square}
+use Rattle.placement_rules.specs.Placing.{workNeeded}
+use Rattle.search_rules.specs.declared.Job.{Job}
+use Rattle.search_rules.specs.Job.{unbroken, stepChecked}
+use Rattle.search_rules.proofs.Unbroken.{sound, square}
 use Rattle.search.proofs.check_step.Statement.{statement}
 use Rattle.search.proofs.check_step.Tie as tie
 
@@ -32,13 +32,13 @@ module _ (j : Job) (size room : ℕ) where
       third h = rw (one, lt-ltb (j .position) (j .levels * j .levels) two, ne-eqb size (j .levels * 720) h)
 
       module _ (three : size ≡ j .levels * 720) where
-        fourth : room < 2160 → refused 8 ≡ said
-        unfolding stepChecked workNeeded
-        fourth h = rw (one, lt-ltb (j .position) (j .levels * j .levels) two, eq-eqb size (j .levels * 720) three, lt-leb 2160 room h)
+        fourth : room < workNeeded 720 → refused 8 ≡ said
+        unfolding stepChecked
+        fourth h = rw (one, lt-ltb (j .position) (j .levels * j .levels) two, eq-eqb size (j .levels * 720) three, lt-leb (workNeeded 720) room h)
 
-        fine : 2160 ≤ room → value tt ≡ said
-        unfolding stepChecked workNeeded
-        fine h = rw (one, lt-ltb (j .position) (j .levels * j .levels) two, eq-eqb size (j .levels * 720) three, le-leb 2160 room h)
+        fine : workNeeded 720 ≤ room → value tt ≡ said
+        unfolding stepChecked
+        fine h = rw (one, lt-ltb (j .position) (j .levels * j .levels) two, eq-eqb size (j .levels * 720) three, le-leb (workNeeded 720) room h)
 
 is-unbroken-requires : tie.Need-is-unbroken-requires
 is-unbroken-requires c κs = search needs
@@ -73,12 +73,14 @@ mul-if4 : tie.Need-mul-if4
 mul-if4 c = search needs
 
 returns-4 : tie.Need-returns-4
+unfolding workNeeded
 returns-4 c =
     let g = c .before in
     let f = g .before in
     fourth _ _ _ (one (f .before .before)) (f .if2 .left) (g .if3 .left) (c .if4 .taken)
 
 returns-5 : tie.Need-returns-5
+unfolding workNeeded
 returns-5 c =
     let g = c .before in
     let f = g .before in

@@ -2,7 +2,7 @@
 use mathlib.Core.Path.{sym, ap}
 use lib.Ieee.{ofBits, ofInt, neg}
 use borrow.Author.Needs.{needs}
-use Rattle.search.specs.Job.{floorOf}
+use Rattle.search_rules.specs.Job.{floorOf}
 use Rattle.search.proofs.floor_of.Statement.{statement}
 use Rattle.search.proofs.floor_of.Tie as tie
 

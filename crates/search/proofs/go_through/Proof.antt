@@ -5,9 +5,9 @@ use native.Mathlib.Omega.{arith}
 use borrow.Author.Needs.{needs}
 use borrow.Author.Tests.{not-true, not-false}
 use Rattle.limits.specs.Refusals.{number}
-use Rattle.placement.proofs.Checking.{said-twice}
-use Rattle.search.specs.Job.{qualifies}
-use Rattle.search.proofs.Sound.{sound}
+use Rattle.limits.proofs.Checks.{said-twice}
+use Rattle.search_rules.specs.Job.{qualifies}
+use Rattle.search_rules.proofs.Unbroken.{sound}
 use Rattle.search.proofs.Going.{passed-over, went-refused, given-refused, went-nowhere, went-better, went-worse}
 use Rattle.search.proofs.Giving.{accepting, refusing}
 use Rattle.search.proofs.go_through.Statement.{statement}

@@ -6,8 +6,8 @@ use lib.Dec.{ltb}
 use lib.Ieee.{ofBits, ofInt, neg, le}
 use borrow.Author.Needs.{needs}
 use Rattle.limits.specs.Taken.{f32Of}
-use Rattle.search.specs.Job.{bestHeld}
-use Rattle.search.proofs.Tests.{all-four, not-four}
+use Rattle.limits.proofs.Tests.{passed-on, stopped, regroup}
+use Rattle.search_rules.specs.Job.{bestHeld}
 use Rattle.search.proofs.holds_best.Statement.{statement}
 use Rattle.search.proofs.holds_best.Tie as tie
 
@@ -40,7 +40,10 @@ returns-2 c =
     let x = k .best .given .0 .0 in
     let d = k .best .given .0 .1 .0 in
     let l = k .best .given .0 .1 .1 .0 in
-    all-four (le (f32Of 35) x) (le x (f32Of 200)) (ltb d levels) (ltb l levels) (c .before .if2 .if3) (dark-held (c .before)) (c .if3 .taken) ∙ sym (ap (bestHeld levels) (k .best .given .1))
+    passed-on ((le (f32Of 35) x && le x (f32Of 200)) && ltb d levels) (ltb l levels) (c .before .if2 .if3) (dark-held (c .before)) (c .if3 .taken)
+    ∙ regroup (le (f32Of 35) x && le x (f32Of 200)) (ltb d levels) (ltb l levels)
+    ∙ regroup (le (f32Of 35) x) (le x (f32Of 200)) (ltb d levels && ltb l levels)
+    ∙ sym (ap (bestHeld levels) (k .best .given .1))
 
 returns-3 : tie.Need-returns-3
 returns-3 c =
@@ -49,7 +52,10 @@ returns-3 c =
     let x = k .best .given .0 .0 in
     let d = k .best .given .0 .1 .0 in
     let l = k .best .given .0 .1 .1 .0 in
-    not-four (le (f32Of 35) x) (le x (f32Of 200)) (ltb d levels) (ltb l levels) (c .before .if2 .if3) (dark-held (c .before)) (c .if3 .left) ∙ sym (ap (bestHeld levels) (k .best .given .1))
+    stopped ((le (f32Of 35) x && le x (f32Of 200)) && ltb d levels) (ltb l levels) (c .before .if2 .if3) (dark-held (c .before)) (c .if3 .left)
+    ∙ regroup (le (f32Of 35) x && le x (f32Of 200)) (ltb d levels) (ltb l levels)
+    ∙ regroup (le (f32Of 35) x) (le x (f32Of 200)) (ltb d levels && ltb l levels)
+    ∙ sym (ap (bestHeld levels) (k .best .given .1))
 
 pub holds-best-spec : {M : Type 1} → statement M
 holds-best-spec = tie.close (tie.spec enum-told enum-known-best returns returns-2 returns-3)

@@ -5,7 +5,7 @@ use Prim.Native.Nat.{ℕ, _+_, _-_, _≤_, _<_}
 use native.Mathlib.Nat.{sub-zero}
 use native.Mathlib.Omega.{arith}
 use lib.ListN.{length, drop, getD}
-use Rattle.search.specs.Job.{huesHeld}
+use Rattle.search_rules.specs.Job.{huesHeld}
 use Rattle.search.proofs.Held.{first-next, first-fails, rest-next, rest-fails, none-left}
 use Rattle.search.proofs.holds_hues.Statement.{statement}
 use Rattle.search.proofs.holds_hues.Tie as tie

@@ -8,28 +8,25 @@ use native.Mathlib.Omega.{arith}
 use lib.Dec.{leb}
 use borrow.Author.Needs.{needs}
 use borrow.Author.Tests.{le-leb, lt-leb, leb-true, not-true, not-false}
-use Rattle.limits.specs.Taken.{hueCountTaken, gapTaken}
+use Rattle.limits.specs.Taken.{hueCountTaken}
 use Rattle.limits.proofs.HueCount.{both}
-use Rattle.search.specs.declared.Job.{Job}
-use Rattle.search.specs.Job.{bestHeld, handed, huesHeld, unbroken}
+use Rattle.limits.proofs.Tests.{regroup}
+use Rattle.search_rules.specs.declared.Job.{Job}
+use Rattle.search_rules.specs.Job.{gapHeld, bestHeld, handed, huesHeld, unbroken}
 use Rattle.search.proofs.is_unbroken.Statement.{statement}
 use Rattle.search.proofs.is_unbroken.Tie as tie
 
 -- the tests of a job, two by two
 abbrev grouped : Job → Bool
-grouped j = (hueCountTaken (j .settings .k) && gapTaken (j .settings .gap)) && ((leb 1 (j .levels) && leb (j .levels) 169) && (leb (j .position) (j .levels * j .levels) && (bestHeld (j .levels) (j .best) && huesHeld (handed (j .settings .k) (j .best)) (j .hues))))
-
-pair-up : (a b r : Bool) → ((a && b) && r) ≡ (a && (b && r))
-pair-up true b r = refl
-pair-up false b r = refl
+grouped j = (hueCountTaken (j .settings .k) && gapHeld (j .settings .gap)) && ((leb 1 (j .levels) && leb (j .levels) 169) && (leb (j .position) (j .levels * j .levels) && (bestHeld (j .levels) (j .best) && huesHeld (handed (j .settings .k) (j .best)) (j .hues))))
 
 group : (j : Job) → grouped j ≡ unbroken j
 unfolding unbroken
-group j = rw (pair-up, pair-up)
+group j = rw (regroup, regroup)
 
 module _ (j : Job) where
   abbrev settings-taken : Bool
-  settings-taken = hueCountTaken (j .settings .k) && gapTaken (j .settings .gap)
+  settings-taken = hueCountTaken (j .settings .k) && gapHeld (j .settings .gap)
 
   abbrev levels-taken : Bool
   levels-taken = leb 1 (j .levels) && leb (j .levels) 169
@@ -60,8 +57,8 @@ settings-join c =
     let s = c .before .before .before .args .job .settings in
     let h = c .before .takes-hue-count .ensures in
     ⊎-elim
-    (λ t. t .2 ∙ t .1 .ensures ∙ ap (λ (b : Bool). b && gapTaken (s .gap)) (sym (t .0 .taken) ∙ h))
-    (λ t. t .1 ∙ t .0 .left ∙ ap (λ (b : Bool). b && gapTaken (s .gap)) (sym (t .0 .left) ∙ h))
+    (λ t. t .2 ∙ t .1 .ensures ∙ ap (λ (b : Bool). b && gapHeld (s .gap)) (sym (t .0 .taken) ∙ h))
+    (λ t. t .1 ∙ t .0 .left ∙ ap (λ (b : Bool). b && gapHeld (s .gap)) (sym (t .0 .left) ∙ h))
     (c .if1 .came)
 
 returns : tie.Need-returns

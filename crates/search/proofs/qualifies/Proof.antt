@@ -1,7 +1,7 @@
 -- `search::qualifies` meets its contract: the code's 1 by its pattern is the specification's. Assumes nothing.
 use lib.Ieee.{ofBits, ofInt, neg}
 use borrow.Author.Needs.{needs}
-use Rattle.search.specs.Job.{qualifies}
+use Rattle.search_rules.specs.Job.{qualifies}
 use Rattle.search.proofs.qualifies.Statement.{statement}
 use Rattle.search.proofs.qualifies.Tie as tie
 

@@ -11,13 +11,14 @@ use lib.ListN.{length}
 use borrow.Author.Needs.{needs}
 use borrow.Author.Tests.{le-leb, lt-leb}
 use Rattle.limits.specs.Answers.{Said, value, refused}
-use Rattle.placement.specs.Placing.{workNeeded}
-use Rattle.placement.proofs.Checking.{said-twice}
-use Rattle.search.specs.declared.Settings.{Settings}
-use Rattle.search.specs.declared.Job.{Job}
-use Rattle.search.specs.Job.{levelsIn, begun, stepsFrom, searchSays}
+use Rattle.limits.proofs.Checks.{said-twice}
+use Rattle.gamut.specs.Table.{levelsIn}
+use Rattle.placement_rules.specs.Placing.{workNeeded}
+use Rattle.search_rules.specs.declared.Settings.{Settings}
+use Rattle.search_rules.specs.declared.Job.{Job}
+use Rattle.search_rules.specs.Job.{begun, stepsFrom, searchSays}
+use Rattle.search_rules.proofs.Unbroken.{square}
 use Rattle.search.proofs.Checking.{start-fine, start-wrong, start-levels}
-use Rattle.search.proofs.Sound.{square}
 use Rattle.search.proofs.Giving.{accepting, refusing}
 use Rattle.search.proofs.search.Statement.{statement}
 use Rattle.search.proofs.search.Tie as tie
@@ -27,13 +28,11 @@ module _ (s : Settings) (table : List Float) (room : ℕ) where
   abbrev checked-room : Said Job
   checked-room = cond (leb (workNeeded 720) room) (value (stepsFrom (levelsIn table * levelsIn table) (begun s (levelsIn table)) table room)) (refused 8)
 
-  too-little : room < 2160 → checked-room ≡ refused 8
-  unfolding workNeeded
-  too-little h = rw (lt-leb 2160 room h)
+  too-little : room < workNeeded 720 → checked-room ≡ refused 8
+  too-little h = rw (lt-leb (workNeeded 720) room h)
 
-  enough : 2160 ≤ room → checked-room ≡ value (stepsFrom (levelsIn table * levelsIn table) (begun s (levelsIn table)) table room)
-  unfolding workNeeded
-  enough h = rw (le-leb 2160 room h)
+  enough : workNeeded 720 ≤ room → checked-room ≡ value (stepsFrom (levelsIn table * levelsIn table) (begun s (levelsIn table)) table room)
+  enough h = rw (le-leb (workNeeded 720) room h)
 
 check-start-requires : tie.Need-check-start-requires
 check-start-requires c κs = search needs
@@ -54,7 +53,7 @@ refuse-requires-2 : tie.Need-refuse-requires-2
 refuse-requires-2 c κs = search needs
 
 returns : tie.Need-returns
-unfolding searchSays
+unfolding searchSays workNeeded
 returns c =
     let k = c .before .before .before .before in
     let a = k .before .before .before .args in
@@ -92,7 +91,7 @@ same-length : tie.Need-same-length
 same-length c = search needs
 
 returns-3 : tie.Need-returns-3
-unfolding searchSays levelsIn
+unfolding searchSays levelsIn workNeeded
 returns-3 c =
     let k = c .before .before .before .before .before .before .before .before .before in
     let a = k .before .before .before .args in

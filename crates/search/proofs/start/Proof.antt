@@ -2,7 +2,8 @@
 use denote.Ref.{now}
 use borrow.Author.Needs.{needs}
 use Rattle.limits.specs.Answers.{value}
-use Rattle.search.specs.Job.{levelsIn, begun, startSays}
+use Rattle.gamut.specs.Table.{levelsIn}
+use Rattle.search_rules.specs.Job.{begun, startSays}
 use Rattle.search.proofs.Checking.{start-fine, start-wrong}
 use Rattle.search.proofs.Giving.{accepting, refusing}
 use Rattle.search.proofs.start.Statement.{statement}

@@ -1,15 +1,15 @@
 -- `search::step` meets its contract: the check says what is refused, and the pair of levels at the position the rest. Assumes nothing.
-use mathlib.Core.Path.{_≡_, refl, sym, _∙_, subst}
-use mathlib.Core.Bool.{true}
-use Prim.Native.Nat.{_*_, _/_, _%_, _≤_, _<_}
+use mathlib.Core.Path.{refl, sym, _∙_, subst}
+use Prim.Native.Nat.{_/_, _%_}
 use native.Mathlib.Nat.{div-lt-iff-lt-mul, mod-lt}
 use native.Mathlib.Omega.{arith}
 use denote.Ref.{now}
 use lib.ListN.{length}
 use borrow.Author.Needs.{needs}
-use Rattle.search.specs.Job.{unbroken, searched, stepSays, Gives}
+use Rattle.search_rules.specs.Job.{searched, stepSays, Gives}
+use Rattle.search_rules.proofs.Checking.{StepPassed}
+use Rattle.search_rules.proofs.Unbroken.{sound, square}
 use Rattle.search.proofs.Checking.{step-fine, step-wrong, step-known}
-use Rattle.search.proofs.Sound.{sound, square}
 use Rattle.search.proofs.Giving.{refusing}
 use Rattle.search.proofs.step.Statement.{statement}
 use Rattle.search.proofs.step.Tie as tie
@@ -27,27 +27,27 @@ enum-told : tie.Need-enum-told
 enum-told c = search needs
 
 -- what a check that is passed says of the job, the table and the work buffer
-known : (c : tie.After-enum-told) → (unbroken (c .before .before .before .before .before .args .job) ≡ true) × (c .before .before .before .before .before .args .job .position < c .before .before .before .before .before .args .job .levels * c .before .before .before .before .before .args .job .levels) × (length (now (c .before .before .before .before .before .args .table)) ≡ c .before .before .before .before .before .args .job .levels * 720) × (2160 ≤ length (now (c .before .before .before .before .before .args .work)))
+known : (c : tie.After-enum-told) → (let a = c .before .before .before .before .before .args in StepPassed (a .job) (length (now (a .table))) (length (now (a .work))))
 known c =
     let k = c .before .before in
     let a = k .before .before .before .args in
     step-known (a .job) (length (now (a .table))) (length (now (a .work))) (k .check-step .result) (k .check-step .ensures) (c .enum-told .given .1)
 
 div-dark : tie.Need-div-dark
-div-dark c = sound (c .before .before .before .before .before .before .args .job) (known (c .before) .0) .some-level
+div-dark c = sound (c .before .before .before .before .before .before .args .job) (known (c .before) .sound) .some-level
 
 rem-light : tie.Need-rem-light
-rem-light c = sound (c .before .before .before .before .before .before .before .args .job) (known (c .before .before) .0) .some-level
+rem-light c = sound (c .before .before .before .before .before .before .before .args .job) (known (c .before .before) .sound) .some-level
 
 go-through-requires : tie.Need-go-through-requires
 go-through-requires c κs =
     let e = c .before .before .before in
     let j = e .before .before .before .before .before .args .job in
     let k = known e in
-    let s = sound j (k .0) in
-    let inside = k .1 in
+    let s = sound j (k .sound) in
+    let inside = k .unfinished in
     let most = square (j .levels) (s .few-levels) in
-    record { sound = k .0; long = k .2; room-enough = k .3; dark-in = div-lt-iff-lt-mul {k = j .levels} {x = j .position} {y = j .levels} (s .some-level) .1 inside; light-in = mod-lt (j .position) (s .some-level); unfinished = omega arith }
+    record { sound = k .sound; long = k .whole; room-enough = k .room-enough; dark-in = div-lt-iff-lt-mul {k = j .levels} {x = j .position} {y = j .levels} (s .some-level) .1 inside; light-in = mod-lt (j .position) (s .some-level); unfinished = omega arith }
 
 returns : tie.Need-returns
 unfolding stepSays

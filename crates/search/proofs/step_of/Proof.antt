@@ -8,9 +8,9 @@ use Rattle.limits.specs.Answers.{value, refused}
 use Rattle.limits.specs.Refusals.{number}
 use Rattle.limits.specs.Taken.{hueCountTaken}
 use Rattle.limits.specs.declared.Refusal.{Refusal}
-use Rattle.placement.specs.declared.Stepping.{Stepping}
-use Rattle.placement.specs.declared.Stepping.the-variants.{Is, Declined}
-use Rattle.placement.specs.Placing.{stepFor, stepSaid, stepSays}
+use Rattle.placement_rules.specs.declared.Stepping.{Stepping}
+use Rattle.placement_rules.specs.declared.Stepping.the-variants.{Is, Declined}
+use Rattle.placement_rules.specs.Placing.{stepFor, stepSaid, stepSays}
 use Rattle.search.proofs.step_of.Statement.{statement}
 use Rattle.search.proofs.step_of.Tie as tie
 

@@ -7,8 +7,8 @@ use native.Mathlib.Omega.{arith}
 use lib.Ieee.{Float}
 use lib.ListN.{length}
 use borrow.Author.Needs.{needs}
-use Rattle.search.specs.declared.Job.{Job}
-use Rattle.search.specs.Job.{jobAfter, stepSays, stepsFrom}
+use Rattle.search_rules.specs.declared.Job.{Job}
+use Rattle.search_rules.specs.Job.{jobAfter, stepSays, stepsFrom}
 use Rattle.search.proofs.take_steps.Statement.{statement}
 use Rattle.search.proofs.take_steps.Tie as tie
 

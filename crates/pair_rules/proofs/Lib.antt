@@ -1,0 +1,4 @@
+pub mod Rows
+pub mod Choices
+pub mod Promise
+pub mod Cases

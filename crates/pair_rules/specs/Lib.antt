@@ -1,0 +1,4 @@
+pub mod Rows
+pub mod Pair
+pub mod Limit
+pub mod Marked

@@ -1,0 +1,7 @@
+pub mod Earliest
+pub mod Chain
+pub mod Sorted
+pub mod Laws
+pub mod Allowed
+pub mod Checking
+pub mod Stored

@@ -1,0 +1,107 @@
+-- Start is accepted exactly on document 01's conditions, and so is step (`start-exactly`, `step-exactly`). Assumes nothing.
+use mathlib.Core.Path.{_≡_, refl, sym, subst}
+use mathlib.Core.Logic.{_↔_}
+use mathlib.Core.Bool.{Bool, true, false, _&&_, cond}
+use mathlib.Core.List.{List, [], _∷_}
+use Prim.Native.Nat.{ℕ, _*_, _/_, _%_, _≤_, _<_}
+use native.Mathlib.Nat.{mod-lt, div-lt-iff-lt-mul}
+use native.Mathlib.Omega.{arith}
+use lib.Ieee.{Float}
+use lib.ListN.{length}
+use Rattle.limits.specs.Answers.{Said, value, refused}
+use Rattle.limits.specs.Taken.{entryTaken, every}
+use Rattle.limits.proofs.HueCount.{both, hue-count}
+use Rattle.limits.proofs.Checks.{AllPass, all-pass, said}
+use Rattle.limits.proofs.Lists.{each-true, every-true}
+use Rattle.gamut.specs.Table.{levelsIn, rowAt}
+use Rattle.gamut.proofs.Table.{levelled, table-taken}
+use Rattle.search_rules.specs.declared.Settings.{Settings}
+use Rattle.search_rules.specs.declared.Job.{Job}
+use Rattle.search_rules.specs.Job.{begun, startChecked, startSays, qualifies, movedOn, afterPair, pairBest, searched, stepChecked, stepSays}
+use Rattle.search_rules.specs.Runs.{FarApart}
+use Rattle.search_rules.specs.Accepted.{Accepted, EachTaken, StartTaken, Unbroken, StepTaken}
+use Rattle.search_rules.proofs.Apart.{far-apart, qualified}
+use Rattle.search_rules.proofs.Checking.{start-checks, step-checks, step-passed, step-passes}
+use Rattle.search_rules.proofs.Unbroken.{count-taken, unbroken-exactly}
+
+-- ---- start
+module _ (s : Settings) (t : List Float) where
+  pub start-only : Accepted (startSays s t) → StartTaken s t
+  unfolding startSays startChecked
+  start-only a =
+      let f = all-pass (start-checks s t) (value (begun s (levelsIn t))) (a .0) (a .1) .0 in
+      let l = levelled t (f .1 .1 .0) in
+      record { hue-count = hue-count (s .k) (f .0); gap = f .1 .0; whole-levels = l .long; levels = (l .some-level, l .few-levels); entries = each-true entryTaken t (f .1 .1 .1 .0) }
+
+  pub start-passing : {A : Type 0} → StartTaken s t → (x : Said A) → startChecked s t x ≡ x
+  unfolding startChecked
+  start-passing h x =
+      said (start-checks s t) x
+      (count-taken (s .k) (h .hue-count), (h .gap, (table-taken t (record { long = h .whole-levels; some-level = h .levels .0; few-levels = h .levels .1 }), (every-true entryTaken t (h .entries), tt))))
+
+  pub start-given : StartTaken s t → startSays s t ≡ value (begun s (levelsIn t))
+  unfolding startSays
+  start-given h = start-passing h (value (begun s (levelsIn t)))
+
+  pub start-exactly : Accepted (startSays s t) ↔ StartTaken s t
+  start-exactly = (start-only, λ (h : StartTaken s t). (begun s (levelsIn t), start-given h))
+
+-- ---- step
+module _ (j : Job) (t : List Float) (room : ℕ) where
+  abbrev dark : ℕ
+  dark = j .position / j .levels
+
+  abbrev light : ℕ
+  light = j .position % j .levels
+
+  -- both indices are below the levels
+  inside : Unbroken j → j .position < j .levels * j .levels → (dark < 169) × (light < 169)
+  inside h u =
+      let L = h .levels .0 in
+      let few = h .levels .1 in
+      let a : dark < j .levels = div-lt-iff-lt-mul L .1 u in
+      let b : light < j .levels = mod-lt (j .position) L in
+      (omega arith, omega arith)
+
+  pub step-only : Accepted (stepSays j t room) → StepTaken j t room
+  unfolding stepSays stepChecked searched
+  step-only a =
+      let f = all-pass (step-checks j (length t) room) (searched j t dark light) (a .0) (a .1) in
+      let p = step-passed j (length t) room (f .0) in
+      let sound = unbroken-exactly j .0 (p .sound) in
+      let u = p .unfinished in
+      record {
+        unbroken = sound;
+        unfinished = u;
+        whole-levels = p .whole;
+        room-enough = p .room-enough;
+        entries = λ (far : FarApart (j .settings .gap) dark light). read (qualified (j .settings) (sound .gap) dark light (inside sound u .0) (inside sound u .1) far) (f .1);
+      }
+    where
+      read : qualifies (j .settings) dark light ≡ true
+          → cond (qualifies (j .settings) dark light) (cond (every entryTaken (rowAt t dark) && every entryTaken (rowAt t light)) (value (afterPair j dark light (pairBest j t dark light))) (refused 7)) (value (movedOn j)) ≡ value (a .0)
+          → EachTaken (rowAt t dark) × EachTaken (rowAt t light)
+      read q h = go (every entryTaken (rowAt t dark) && every entryTaken (rowAt t light)) refl (subst (λ (b : Bool). cond b (cond (every entryTaken (rowAt t dark) && every entryTaken (rowAt t light)) (value (afterPair j dark light (pairBest j t dark light))) (refused 7)) (value (movedOn j)) ≡ value (a .0)) q h)
+        where
+          go : (b : Bool) → (every entryTaken (rowAt t dark) && every entryTaken (rowAt t light)) ≡ b → cond b (value (afterPair j dark light (pairBest j t dark light))) (refused 7) ≡ value (a .0) → EachTaken (rowAt t dark) × EachTaken (rowAt t light)
+          go true e h = let r = both (every entryTaken (rowAt t dark)) (every entryTaken (rowAt t light)) e in (each-true entryTaken (rowAt t dark) (r .0), each-true entryTaken (rowAt t light) (r .1))
+          go false e h = absurd (let z : _≡_ {A = ℕ} 0 1 = cc in omega arith)
+
+  pub step-given : StepTaken j t room → Accepted (stepSays j t room)
+  unfolding stepSays stepChecked searched
+  step-given h =
+      subst Accepted (sym (said (step-checks j (length t) room) (searched j t dark light) passes)) (go (qualifies (j .settings) dark light) refl)
+    where
+      passes : AllPass (step-checks j (length t) room)
+      passes = step-passes j (length t) room (record { sound = unbroken-exactly j .1 (h .unbroken); unfinished = h .unfinished; whole = h .whole-levels; room-enough = h .room-enough })
+
+      go : (q : Bool) → qualifies (j .settings) dark light ≡ q → Accepted (cond q (cond (every entryTaken (rowAt t dark) && every entryTaken (rowAt t light)) (value (afterPair j dark light (pairBest j t dark light))) (refused 7)) (value (movedOn j)))
+      go false e = (movedOn j, refl)
+      go true e =
+          let sound = h .unbroken in
+          let u = h .unfinished in
+          let r = h .entries (far-apart (j .settings) (sound .gap) dark light (inside sound u .0) (inside sound u .1) e) in
+          rw (every-true entryTaken (rowAt t dark) (r .0), every-true entryTaken (rowAt t light) (r .1)) (afterPair j dark light (pairBest j t dark light), refl)
+
+  pub step-exactly : Accepted (stepSays j t room) ↔ StepTaken j t room
+  step-exactly = (step-only, step-given)

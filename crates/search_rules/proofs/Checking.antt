@@ -1,0 +1,40 @@
+-- The checks of a start and of a step as lists, in the order in which they are made, and what those of a step say where all pass. Assumes nothing.
+use mathlib.Core.Path.{_≡_}
+use mathlib.Core.Bool.{true}
+use mathlib.Core.List.{List, [], _∷_}
+use Prim.Native.Nat.{ℕ, _*_, _≤_, _<_}
+use lib.Dec.{leb, ltb, eqb}
+use lib.Ieee.{Float}
+use borrow.Author.Tests.{leb-true, ltb-true, eqb-true, le-leb, lt-ltb, eq-eqb}
+use Rattle.limits.specs.Taken.{hueCountTaken, entryTaken, every}
+use Rattle.limits.proofs.Checks.{Check, check, AllPass}
+use Rattle.gamut.specs.Table.{tableTaken}
+use Rattle.placement_rules.specs.Placing.{workNeeded}
+use Rattle.search_rules.specs.declared.Settings.{Settings}
+use Rattle.search_rules.specs.declared.Job.{Job}
+use Rattle.search_rules.specs.Job.{gapStarts, unbroken}
+
+abbrev pub start-checks : Settings → List Float → List Check
+start-checks s table = check (hueCountTaken (s .k)) 1 ∷ check (gapStarts (s .gap)) 2 ∷ check (tableTaken table) 6 ∷ check (every entryTaken table) 7 ∷ []
+
+abbrev pub step-checks : Job → ℕ → ℕ → List Check
+step-checks j size room = check (unbroken j) 15 ∷ check (ltb (j .position) (j .levels * j .levels)) 14 ∷ check (eqb size (j .levels * 720)) 6 ∷ check (leb (workNeeded 720) room) 8 ∷ []
+
+-- what a step that is not refused by 15, 14, 6 or 8 stands on
+pub record StepPassed (j : Job) (size room : ℕ) : Type 0 where
+  pub sound : unbroken j ≡ true
+  pub unfinished : j .position < j .levels * j .levels
+  pub whole : size ≡ j .levels * 720
+  pub room-enough : workNeeded 720 ≤ room
+
+module _ (j : Job) (size room : ℕ) where
+  pub step-passed : AllPass (step-checks j size room) → StepPassed j size room
+  step-passed t = record {
+    sound = t .0;
+    unfinished = ltb-true (j .position) (j .levels * j .levels) (t .1 .0);
+    whole = eqb-true size (j .levels * 720) (t .1 .1 .0);
+    room-enough = leb-true (workNeeded 720) room (t .1 .1 .1 .0);
+  }
+
+  pub step-passes : StepPassed j size room → AllPass (step-checks j size room)
+  step-passes p = (p .sound, (lt-ltb (j .position) (j .levels * j .levels) (p .unfinished), (eq-eqb size (j .levels * 720) (p .whole), (le-leb (workNeeded 720) room (p .room-enough), tt))))

@@ -1,0 +1,11 @@
+pub mod Apart
+pub mod Checking
+pub mod Unbroken
+pub mod Floor
+pub mod Rows
+pub mod Choices
+pub mod Kept
+pub mod Runs
+pub mod Accepted
+pub mod Goes
+pub mod Example

@@ -1,0 +1,66 @@
+-- When a call is accepted, by document 01's conditions in so many words: for a start numbers 1, 2, 6, 7, for a step numbers 15, 14, 6, 8, 7. Definitions only.
+use mathlib.Core.Path.{_≡_}
+use mathlib.Core.Bool.{true}
+use mathlib.Core.List.{List}
+use Prim.Native.Nat.{ℕ, _*_, _/_, _%_, _≤_, _<_}
+use lib.Ieee.{Float, le}
+use lib.ListN.{length, getD}
+use Rattle.limits.specs.Answers.{Said, value}
+use Rattle.limits.specs.Taken.{f32Of, entryTaken}
+use Rattle.limits.specs.Each.{Each}
+use Rattle.gamut.specs.Table.{levelsIn, rowAt}
+use Rattle.placement_rules.specs.Placing.{workNeeded}
+use Rattle.search_rules.specs.declared.Settings.{Settings}
+use Rattle.search_rules.specs.declared.Best.{Best}
+use Rattle.search_rules.specs.declared.Best.the-variants.{None, Found}
+use Rattle.search_rules.specs.declared.Job.{Job}
+use Rattle.search_rules.specs.Job.{gapStarts, gapHeld}
+use Rattle.search_rules.specs.Runs.{FarApart}
+
+-- "A call is accepted when it gives no refusal number."
+abbrev pub Accepted : Said Job → Type 0
+Accepted said = (j : Job) × (said ≡ value j)
+
+-- from low to high
+abbrev pub Between : ℕ → ℕ → ℕ → Type 0
+Between low high n = (low ≤ n) × (n ≤ high)
+
+-- each entry is one that number 7 takes
+abbrev pub EachTaken : List Float → Type 0
+EachTaken xs = Each (λ x. entryTaken x ≡ true) xs
+
+-- ---- a start
+pub record StartTaken (s : Settings) (t : List Float) : Type 0 where
+  pub hue-count : Between 1 16 (s .k)
+  pub gap : gapStarts (s .gap) ≡ true
+  pub whole-levels : length t ≡ levelsIn t * 720
+  pub levels : Between 1 169 (levelsIn t)
+  pub entries : EachTaken t
+
+-- ---- a record that is not broken
+-- a chroma from 35 to 200, and level indices below levels
+abbrev pub BestWithin : ℕ → Best → Type 0
+BestWithin levels None = Unit
+BestWithin levels (Found c d l) = (le (f32Of 35) c ≡ true) × ((le c (f32Of 200) ≡ true) × ((d < levels) × (l < levels)))
+
+-- the hue in place p: at most 719 among the first k, where there is a best so far, and else zero
+abbrev pub HueWithin : ℕ → Best → ℕ → ℕ → Type 0
+HueWithin k None p h = h ≡ 0
+HueWithin k (Found c d l) p h = (p < k → h ≤ 719) × (k ≤ p → h ≡ 0)
+
+pub record Unbroken (j : Job) : Type 0 where
+  pub hue-count : Between 1 16 (j .settings .k)
+  pub gap : gapHeld (j .settings .gap) ≡ true
+  pub levels : Between 1 169 (j .levels)
+  pub position : j .position ≤ j .levels * j .levels
+  pub best : BestWithin (j .levels) (j .best)
+  pub hues : (p : ℕ) → p < length (j .hues) → HueWithin (j .settings .k) (j .best) p (getD (j .hues) p 0)
+
+-- ---- a step
+-- two rows that are read are taken; none is read where the gap is too small
+pub record StepTaken (j : Job) (t : List Float) (room : ℕ) : Type 0 where
+  pub unbroken : Unbroken j
+  pub unfinished : j .position < j .levels * j .levels
+  pub whole-levels : length t ≡ j .levels * 720
+  pub room-enough : workNeeded 720 ≤ room
+  pub entries : FarApart (j .settings .gap) (j .position / j .levels) (j .position % j .levels) → EachTaken (rowAt t (j .position / j .levels)) × EachTaken (rowAt t (j .position % j .levels))
