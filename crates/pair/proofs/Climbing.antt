@@ -1,35 +1,30 @@
--- What is kept while a chroma is halved from a floor over a row that is taken: what is left of the 30 halvings ends where all of them do, and the hues are those
--- placed at lo. And what the best is at each end. Assumes nothing.
+-- What one round of a halving leaves (`at-low`, `up`, `down`), what is kept from round to round, and what the best is at each end. Assumes nothing.
 use mathlib.Core.Path.{_≡_, refl, sym, ap, _∙_}
 use mathlib.Core.Bool.{Bool, true, false, cond}
 use mathlib.Core.List.{List}
-use Prim.Native.Nat.{ℕ, _+_, _-_, _≤_, _<_}
+use Prim.Native.Nat.{ℕ, suc, _+_, _-_, _≤_, _<_}
 use native.Mathlib.Omega.{arith}
 use lib.Ieee.{Float, binary32, toBits, lt}
-use Rattle.limits.specs.Answers.{value}
+use Rattle.limits.specs.Answers.{value, pass}
 use Rattle.limits.specs.Taken.{chromaTaken}
-use Rattle.limits.proofs.Floats.{never}
 use Rattle.limits.specs.Each.{F32}
-use Rattle.halving.specs.Midpoint.{midpoint, halve}
-use Rattle.halving.proofs.Halve.{turn-up, turn-down, turned, stays-low, stays-high}
+use Rattle.limits.proofs.Floats.{never}
+use Rattle.halving.specs.Midpoint.{midpoint, halved, halve}
+use Rattle.halving.proofs.Halve.{halve-up, halve-down, stays-low, stays-high}
 use Rattle.halving.proofs.Meeting.{Met, midpoint-met, same-pattern}
 use Rattle.halving.proofs.Range.{taken-up-to, up-to-taken}
 use Rattle.placement_rules.specs.declared.Answer.{Answer}
 use Rattle.placement_rules.specs.declared.Answer.the-variants.{Placed, Nowhere, Refused}
 use Rattle.placement_rules.specs.Ring.{Places, nowhere, placed}
-use Rattle.placement_rules.specs.Placing.{sixteen, placementSays, answers, isPlaced}
+use Rattle.placement_rules.specs.Placing.{sixteen, checked, placementSays, answers, isPlaced}
 use Rattle.placement_rules.proofs.Checking.{row-passes, accepted-says, at-chroma}
 use Rattle.pair_rules.specs.Rows.{largest}
 use Rattle.pair_rules.specs.Pair.{none, found, placedAt, some, placeable, bestOver}
-use Rattle.pair.specs.Inner.{Ready}
 use Rattle.pair_rules.proofs.Rows.{largest-up-to}
+use Rattle.pair.specs.declared.Bracket.{Bracket}
+use Rattle.pair.specs.Inner.{Ready, There, Stands, Turned}
 
 -- ---- an answer that gives places
--- these sixteen hues are placed at c
-pub record There (k step : ℕ) (row : List Float) (c : Float) (hues : List ℕ) : Type 0 where
-  pub passes : placeable k step row c ≡ true
-  pub beside : sixteen (placedAt k step row c) ≡ placed hues
-
 is-some : (a : Answer) (hues : List ℕ) (p : Places) → isPlaced a ≡ true → answers a hues ≡ value (sixteen p) → (some p ≡ true) × (sixteen p ≡ placed hues)
 is-some Placed hues (placed is) t e = (refl, cc)
 is-some Placed hues nowhere t e = absurd (let z : _≡_ {A = ℕ} 0 1 = cc in omega arith)
@@ -42,13 +37,67 @@ is-none Placed hues (placed is) t e = never (sym t)
 is-none Nowhere hues (placed is) t e = absurd (let z : _≡_ {A = ℕ} 0 1 = cc in omega arith)
 is-none (Refused w) hues (placed is) t e = absurd (let z : _≡_ {A = ℕ} 0 1 = cc in omega arith)
 
--- ---- after i halvings
-pub record Climbed (k step : ℕ) (row : List Float) (floor most lo hi : Float) (hues : List ℕ) (i : ℕ) : Type 0 where
-  pub rest : halve (placeable k step row) (30 - i) lo hi ≡ halve (placeable k step row) 30 floor most
-  pub started : placeable k step row floor ≡ true
-  pub there : There k step row lo hues
-  pub low : Met lo
-  pub high : Met hi
+-- what the answer at a chroma says, over a row that placement takes at another
+module _ (k step : ℕ) (row : List Float) (room : ℕ) (d : Float) (fine : checked k step d row room pass ≡ pass) {c : Float} (met : Met c) (a : Answer) (hues : List ℕ) (says : answers a hues ≡ placementSays k step c row room) where
+  taken : checked k step c row room pass ≡ pass
+  unfolding chromaTaken
+  taken = at-chroma k step d row room c (up-to-taken 200 c (omega arith) (met .up-to)) fine
+
+  said : answers a hues ≡ value (sixteen (placedAt k step row c))
+  unfolding placedAt
+  said = says ∙ accepted-says k step c row room taken
+
+  pub placed-at : isPlaced a ≡ true → There k step row c hues
+  unfolding placeable
+  placed-at t = let p = is-some a hues (placedAt k step row c) t said in record { passes = p .0; beside = p .1 }
+
+  pub not-placed-at : isPlaced a ≡ false → placeable k step row c ≡ false
+  unfolding placeable
+  not-placed-at t = is-none a hues (placedAt k step row c) t said
+
+-- ---- one round
+module _ {k step : ℕ} {row : List Float} {room : ℕ} {at : Bracket} (s : Stands k step row room at) where
+  abbrev mid : Float
+  mid = midpoint (at .lo) (at .hi)
+
+  pub mid-met : Met mid
+  mid-met = midpoint-met (s .low) (s .high)
+
+  -- the midpoint is the lower end
+  pub at-low : toBits binary32 mid ≡ toBits binary32 (at .lo) → Turned k step row at (record { lo = at .lo; hi = at .hi; hues = at .hues; still = true })
+  at-low b = record {
+    there = s .there;
+    low = s .low;
+    high = s .high;
+    onward = λ (f : true ≡ false) (n : ℕ). never (sym f);
+    ended = λ (t : true ≡ true) (n : ℕ). stays-low (placeable k step row) n (at .lo) (at .hi) (same-pattern mid-met (s .low) b) (s .there .passes);
+  }
+
+  -- hues are placed at the midpoint
+  pub up : (new : List ℕ) → There k step row mid new → Turned k step row at (record { lo = mid; hi = at .hi; hues = new; still = false })
+  up new t = record {
+    there = t;
+    low = mid-met;
+    high = s .high;
+    onward = λ (f : false ≡ false) (n : ℕ). halve-up (placeable k step row) n (at .lo) (at .hi) (t .passes);
+    ended = λ (e : false ≡ true) (n : ℕ). never e;
+  }
+
+  -- none are: the midpoint may be the upper end
+  pub down : (still : Bool) → (still ≡ true → toBits binary32 mid ≡ toBits binary32 (at .hi)) → placeable k step row mid ≡ false → Turned k step row at (record { lo = at .lo; hi = mid; hues = at .hues; still = still })
+  down still high f = record {
+    there = s .there;
+    low = s .low;
+    high = mid-met;
+    onward = λ (u : still ≡ false) (n : ℕ). halve-down (placeable k step row) n (at .lo) (at .hi) f;
+    ended = λ (t : still ≡ true) (n : ℕ). let m = same-pattern mid-met (s .high) (high t) in stays-high (placeable k step row) n (at .lo) (at .hi) m (ap (placeable k step row) (sym m) ∙ f);
+  }
+
+-- ---- after i rounds
+pub record Climbed (k step : ℕ) (row : List Float) (room : ℕ) (floor most : Float) (at : Bracket) (i : ℕ) : Type 0 where
+  pub stands : Stands k step row room at
+  pub rest : at .still ≡ false → halve (placeable k step row) (30 - i) (at .lo) (at .hi) ≡ halve (placeable k step row) 30 floor most
+  pub ended : at .still ≡ true → at .lo ≡ halve (placeable k step row) 30 floor most
 
 module _ {k step : ℕ} {row : List Float} {room : ℕ} {floor most : Float} (ready : Ready k step floor most row room) where
   abbrev ok : Float → Bool
@@ -65,51 +114,39 @@ module _ {k step : ℕ} {row : List Float} {room : ℕ} {floor most : Float} (re
   pub most-met : F32 most → Met most
   most-met u = record { up-to = rw (ready .top) (largest-up-to row (row-passes k step floor row room (ready .fine) .4)); f32 = u }
 
-  -- what the answer at a chroma says
-  module _ {c : Float} (met : Met c) (a : Answer) (hues : List ℕ) (says : answers a hues ≡ placementSays k step c row room) where
-    said : answers a hues ≡ value (sixteen (placedAt k step row c))
-    unfolding placedAt chromaTaken
-    said = says ∙ accepted-says k step c row room (at-chroma k step floor row room c (up-to-taken 200 c (omega arith) (met .up-to)) (ready .fine))
+  pub begin : (hues : List ℕ) → Met floor → Met most → There k step row floor hues → Climbed k step row room floor most (record { lo = floor; hi = most; hues = hues; still = false }) 0
+  begin hues l h t = record { stands = record { fine = ready .fine; there = t; low = l; high = h }; rest = λ (e : false ≡ false). refl; ended = λ (e : false ≡ true). never e }
 
-    pub placed-at : isPlaced a ≡ true → There k step row c hues
-    unfolding placeable
-    placed-at t = let p = is-some a hues (placedAt k step row c) t said in record { passes = p .0; beside = p .1 }
+  module _ {at : Bracket} {i : ℕ} (s : Climbed k step row room floor most at i) where
+    -- one round on
+    pub onward : (next : Bracket) → i < 30 → at .still ≡ false → Turned k step row at next → Climbed k step row room floor most next (i + 1)
+    unfolding chromaTaken
+    onward next h f t = record {
+      stands = record {
+        fine = at-chroma k step (at .lo) row room (next .lo) (up-to-taken 200 (next .lo) (omega arith) (t .low .up-to)) (s .stands .fine);
+        there = t .there;
+        low = t .low;
+        high = t .high;
+      };
+      rest = λ (u : next .still ≡ false). let e : 30 - i ≡ suc (30 - (i + 1)) = omega arith in sym (t .onward u (30 - (i + 1))) ∙ ap (λ (n : ℕ). halve ok n (at .lo) (at .hi)) (sym e) ∙ s .rest f;
+      ended = λ (u : next .still ≡ true). sym (t .ended u (30 - i)) ∙ s .rest f;
+    }
 
-    pub not-placed-at : isPlaced a ≡ false → placeable k step row c ≡ false
-    unfolding placeable
-    not-placed-at t = is-none a hues (placedAt k step row c) t said
-
-  pub begin : {hues : List ℕ} → Met floor → Met most → There k step row floor hues → Climbed k step row floor most floor most hues 0
-  begin l h t = record { rest = refl; started = t .passes; there = t; low = l; high = h }
-
-  module _ {lo hi : Float} {hues : List ℕ} {i : ℕ} (s : Climbed k step row floor most lo hi hues i) where
-    pub mid-met : Met (midpoint lo hi)
-    mid-met = midpoint-met (s .low) (s .high)
-
-    pub up : {new : List ℕ} → i < 30 → There k step row (midpoint lo hi) new → Climbed k step row floor most (midpoint lo hi) hi new (i + 1)
-    up h t = record { rest = turn-up ok 30 i lo hi end (s .rest) h (t .passes); started = s .started; there = t; low = mid-met; high = s .high }
-
-    pub down : i < 30 → ok (midpoint lo hi) ≡ false → Climbed k step row floor most lo (midpoint lo hi) hues (i + 1)
-    down h f = record { rest = turn-down ok 30 i lo hi end (s .rest) h f; started = s .started; there = s .there; low = s .low; high = mid-met }
-
-    -- the best is reached at the last round, or where the midpoint is an end and moves nothing
-    reached : lo ≡ end → bestOver k step floor row ≡ found lo hues
+    -- the best is reached at the last round, or where the rounds that are left change nothing
+    reached : placeable k step row floor ≡ true → at .lo ≡ end → bestOver k step floor row ≡ found (at .lo) (at .hues)
     unfolding bestOver
-    reached e =
+    reached started e =
         let a : lt (largest row) floor ≡ false = ap (λ (x : Float). lt x floor) (sym (ready .top)) ∙ ready .above in
-        let c : halve ok 30 floor (largest row) ≡ lo = ap (halve ok 30 floor) (sym (ready .top)) ∙ sym e in
-        rw (a, s .started, c, s .there .beside)
+        let c : halve ok 30 floor (largest row) ≡ at .lo = ap (halve ok 30 floor) (sym (ready .top)) ∙ sym e in
+        rw (a, started, c, s .stands .there .beside)
 
-    pub at-last : 30 ≤ i → bestOver k step floor row ≡ found lo hues
-    at-last h = reached (turned ok 30 i lo hi end (s .rest) h)
-
-    pub at-low : toBits binary32 (midpoint lo hi) ≡ toBits binary32 lo → bestOver k step floor row ≡ found lo hues
-    at-low b = reached (sym (stays-low ok (30 - i) lo hi (same-pattern mid-met (s .low) b) (s .there .passes)) ∙ s .rest)
-
-    pub at-high : toBits binary32 (midpoint lo hi) ≡ toBits binary32 hi → ok (midpoint lo hi) ≡ false → bestOver k step floor row ≡ found lo hues
-    at-high b f =
-        let m = same-pattern mid-met (s .high) b in
-        reached (sym (stays-high ok (30 - i) lo hi m (ap ok (sym m) ∙ f)) ∙ s .rest)
+    pub at-last : placeable k step row floor ≡ true → (at .still ≡ false → 30 ≤ i) → bestOver k step floor row ≡ found (at .lo) (at .hues)
+    unfolding halve halved
+    at-last started h = reached started (go (at .still) refl)
+      where
+        go : (b : Bool) → at .still ≡ b → at .lo ≡ end
+        go true e = s .ended e
+        go false e = let l = h e in let z : 30 - i ≡ 0 = omega arith in ap (λ (n : ℕ). halve ok n (at .lo) (at .hi)) (sym z) ∙ s .rest e
 
 -- ---- nothing is placed at the floor, or the floor is above every value
 either-way : (b : Bool) → cond b none none ≡ none

@@ -10,7 +10,7 @@ ghost use Rattle.limits.specs.Answers.{value, refused};
 ghost use Rattle.limits.specs.Refusals.{checkSaid};
 ghost use Rattle.pair_rules.specs.Rows.{leastRow, largest};
 ghost use Rattle.pair_rules.specs.Pair.{none, found, bestOver, rowsChecked, pairSays, huesBeside, answers};
-ghost use Rattle.pair.specs.Inner.{Taken, Ready, Gives};
+ghost use Rattle.pair.specs.Inner.{Taken, Ready, There, Stands, Turned, Gives};
 
 // Nothing is found.
 fn nothing() -> Chosen
@@ -67,8 +67,83 @@ fn found(chroma: f32, hues: [u16; 16]) -> Chosen
     }
 }
 
-// The best over a row of values whose largest is `most`, from a floor. A round whose midpoint is an end and moves nothing is
-// followed only by rounds like it, so it is the last.
+// Where a halving stands.
+struct Bracket {
+    // the ends
+    lo: f32,
+    hi: f32,
+    // the hues that are placed at the lower one
+    hues: [u16; 16],
+    // whether all rounds that are left would change nothing
+    still: bool,
+}
+
+// One round. Where the midpoint is an end and moves nothing, no round after it moves anything.
+fn turn(row: &[f32], k: usize, step: usize, at: Bracket, work: &mut [u16]) -> Bracket
+    requires { ⌜ Stands k step (now row) (length (now work)) at ⌝ }
+    ensures { λ r. ⌜ Turned k step (now (row .entry)) at r ⌝ }
+{
+    let lo = at.lo;
+    let hi = at.hi;
+    let hues = at.hues;
+    let mid = halving::midpoint(lo, hi);
+    if f32::to_bits(mid) == f32::to_bits(lo) {
+        return Bracket {
+            lo,
+            hi,
+            hues,
+            still: true,
+        };
+    }
+    let tried = placement::feasible(row, mid, k, step, work);
+    let answer = tried.answer;
+    if placement::is_placed(answer) {
+        let placed = tried.hues;
+        return Bracket {
+            lo: mid,
+            hi,
+            hues: placed,
+            still: false,
+        };
+    }
+    let still = f32::to_bits(mid) == f32::to_bits(hi);
+    Bracket {
+        lo,
+        hi: mid,
+        hues,
+        still,
+    }
+}
+
+// The best from a floor at which these hues are placed.
+fn rounds(
+    row: &[f32],
+    k: usize,
+    step: usize,
+    floor: f32,
+    most: f32,
+    hues: [u16; 16],
+    work: &mut [u16],
+) -> Chosen
+    requires { ⌜ Ready k step floor most (now row) (length (now work)) × There k step (now row) floor hues ⌝ }
+    ensures { λ r. ⌜ Gives r (bestOver k step floor (now (row .entry))) ⌝ }
+{
+    let mut at = Bracket {
+        lo: floor,
+        hi: most,
+        hues,
+        still: false,
+    };
+    let mut i: u32 = 0;
+    while i < 30 && !at.still {
+        at = turn(row, k, step, at, work);
+        i += 1;
+    }
+    let last = at.hues;
+    found(at.lo, last)
+}
+
+// The best over a row of values whose largest is `most`, from a floor.
 fn climb(row: &[f32], k: usize, step: usize, floor: f32, most: f32, work: &mut [u16]) -> Chosen
     requires { ⌜ Ready k step floor most (now row) (length (now work)) ⌝ }
     ensures { λ r. ⌜ Gives r (bestOver k step floor (now (row .entry))) ⌝ }
@@ -78,29 +153,8 @@ fn climb(row: &[f32], k: usize, step: usize, floor: f32, most: f32, work: &mut [
     if !placement::is_placed(answer) {
         return nothing();
     }
-    let mut hues = first.hues;
-    let mut lo = floor;
-    let mut hi = most;
-    let mut i: u32 = 0;
-    while i < 30 {
-        let mid = halving::midpoint(lo, hi);
-        if f32::to_bits(mid) == f32::to_bits(lo) {
-            return found(lo, hues);
-        }
-        let next = placement::feasible(row, mid, k, step, work);
-        let moved = next.answer;
-        if placement::is_placed(moved) {
-            lo = mid;
-            hues = next.hues;
-        } else {
-            if f32::to_bits(mid) == f32::to_bits(hi) {
-                return found(lo, hues);
-            }
-            hi = mid;
-        }
-        i += 1;
-    }
-    found(lo, hues)
+    let hues = first.hues;
+    rounds(row, k, step, floor, most, hues, work)
 }
 
 // The best of two rows that are taken.
