@@ -1,25 +1,42 @@
--- `every` over what is left of a list: one element on, at an element that fails, and at the end. Assumes nothing.
+-- `every` by a flag that goes through a list: the flag so far and the test of what is left are the test of the whole, at the start (`begun`) and one element
+-- on (`joined`), so that past the end the flag is the test of the whole (`ended`). Assumes nothing.
 use mathlib.Core.Path.{_≡_, refl, sym, ap, _∙_}
 use mathlib.Core.Bool.{Bool, true, false, _&&_}
 use mathlib.Core.List.{List, [], _∷_}
 use Prim.Native.Nat.{ℕ, suc, _+_, _≤_, _<_}
 use native.Mathlib.Numerals.{add-one}
+use native.Mathlib.Omega.{arith}
 use lib.ListN.{length, getD, drop, drop-of-length-le}
 use lib.Seq.{drop-cons}
 use lib.Ieee.{Float, nan}
 use Rattle.limits.specs.Taken.{every}
 
-module _ (p : Float → Bool) (xs : List Float) (i : ℕ) (at : i < length xs) where
-  split : every p (drop i xs) ≡ (p (getD xs i nan) && every p (drop (i + 1) xs))
+-- the flag after i elements of a list
+abbrev pub SoFar : (Float → Bool) → List Float → Bool → ℕ → Type 0
+SoFar p xs all i = (i ≤ length xs) × ((all && every p (drop i xs)) ≡ every p xs)
+
+module _ (p : Float → Bool) (xs : List Float) where
+  pub begun : SoFar p xs true 0
+  begun = (omega arith, refl)
+
+  split : (i : ℕ) → i < length xs → every p (drop i xs) ≡ (p (getD xs i nan) && every p (drop (i + 1) xs))
   unfolding every
-  split = ap (every p) (drop-cons xs i nan at) ∙ ap (λ (n : ℕ). p (getD xs i nan) && every p (drop n xs)) (sym (add-one i))
+  split i at = ap (every p) (drop-cons xs i nan at) ∙ ap (λ (n : ℕ). p (getD xs i nan) && every p (drop n xs)) (sym (add-one i))
 
-  pub every-next : p (getD xs i nan) ≡ true → every p (drop i xs) ≡ every p xs → every p (drop (i + 1) xs) ≡ every p xs
-  every-next t e = sym (split ∙ ap (λ (b : Bool). b && every p (drop (i + 1) xs)) t) ∙ e
+  pub joined : (all one : Bool) (i : ℕ) → i < length xs → one ≡ p (getD xs i nan) → SoFar p xs all i → SoFar p xs (all && one) (i + 1)
+  joined all one i at e s = (omega arith, go all (s .1))
+    where
+      rest : Bool
+      rest = every p (drop (i + 1) xs)
 
-  pub every-fails : p (getD xs i nan) ≡ false → every p (drop i xs) ≡ every p xs → false ≡ every p xs
-  every-fails f e = sym (split ∙ ap (λ (b : Bool). b && every p (drop (i + 1) xs)) f) ∙ e
+      go : (b : Bool) → (b && every p (drop i xs)) ≡ every p xs → ((b && one) && rest) ≡ every p xs
+      go true h = ap (λ (t : Bool). t && rest) e ∙ sym (split i at) ∙ h
+      go false h = h
 
-pub every-done : (p : Float → Bool) (xs : List Float) (i : ℕ) → length xs ≤ i → every p (drop i xs) ≡ every p xs → true ≡ every p xs
-unfolding every
-every-done p xs i h e = sym (ap (every p) (drop-of-length-le xs h)) ∙ e
+  pub ended : (all : Bool) (i : ℕ) → length xs ≤ i → SoFar p xs all i → all ≡ every p xs
+  unfolding every
+  ended all i h s = go all (ap (λ (ys : List Float). all && every p ys) (sym (drop-of-length-le xs h)) ∙ s .1)
+    where
+      go : (b : Bool) → (b && true) ≡ every p xs → b ≡ every p xs
+      go true e = e
+      go false e = e

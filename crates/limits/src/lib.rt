@@ -163,32 +163,30 @@ pub fn takes_hue_operand(x: f32) -> bool
     within(x, -1000.0, 1000.0)
 }
 
-// Whether every entry of a row or table is taken.
+// Whether every entry of a row or table is taken. No entry ends the loop, so that several can be tested at once.
 pub fn takes_entries(entries: &[f32]) -> bool
     ensures { λ r. ⌜ r ≡ every entryTaken (now (entries .entry)) ⌝ }
 {
+    let mut all = true;
     let mut i = 0;
     while i < entries.len() {
-        if !takes_entry(entries[i]) {
-            return false;
-        }
+        all = all & takes_entry(entries[i]);
         i += 1;
     }
-    true
+    all
 }
 
 // Whether every component of one slice of directions is taken.
 fn takes_components(components: &[f32]) -> bool
     ensures { λ r. ⌜ r ≡ every directionTaken (now (components .entry)) ⌝ }
 {
+    let mut all = true;
     let mut j = 0;
     while j < components.len() {
-        if !takes_direction(components[j]) {
-            return false;
-        }
+        all = all & takes_direction(components[j]);
         j += 1;
     }
-    true
+    all
 }
 
 // Whether two slices are taken as the cosines and the sines of the 720 directions.

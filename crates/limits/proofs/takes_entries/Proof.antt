@@ -1,23 +1,21 @@
--- `limits::takes_entries` meets its contract. The invariant: the test of the whole is the test of what is left. Assumes nothing.
-use mathlib.Core.Path.{_≡_, refl, sym, _∙_}
-use Prim.Native.Nat.{_≤_, _-_}
+-- `limits::takes_entries` meets its contract: the flag so far and the test of what is left are the test of the whole. Assumes nothing.
+use Prim.Native.Nat.{_-_}
 use native.Mathlib.Omega.{arith}
-use lib.ListN.{length, drop}
+use lib.ListN.{length}
 use borrow.Author.Needs.{needs}
-use borrow.Author.Tests.{not-true, not-false}
-use Rattle.limits.specs.Taken.{every, entryTaken}
-use Rattle.limits.proofs.Every.{every-next, every-fails, every-done}
+use Rattle.limits.specs.Taken.{entryTaken}
+use Rattle.limits.proofs.Every.{SoFar, begun, joined, ended}
 use Rattle.limits.proofs.takes_entries.Statement.{statement}
 use Rattle.limits.proofs.takes_entries.Tie as tie
 
 abbrev Inv-loop : tie.InvT-loop
-Inv-loop entries i₀ i = (i ≤ length entries) × (every entryTaken (drop i entries) ≡ every entryTaken entries)
+Inv-loop entries all₀ i₀ all i = SoFar entryTaken entries all i
 
 abbrev μ-loop : tie.MeasureT-loop
-μ-loop entries i₀ i = length entries - i
+μ-loop entries all₀ i₀ all i = length entries - i
 
 loop-holds : tie.Need-loop-holds Inv-loop μ-loop
-loop-holds c = (search needs, refl)
+loop-holds c = begun entryTaken _
 
 mul-takes-entry : tie.Need-mul-takes-entry Inv-loop μ-loop
 mul-takes-entry c = search needs
@@ -28,12 +26,6 @@ shared-slice-read-takes-entry c = search needs
 takes-entry-requires : tie.Need-takes-entry-requires Inv-loop μ-loop
 takes-entry-requires c κs = search needs
 
-returns : tie.Need-returns Inv-loop μ-loop
-returns c =
-    let b = c .before .before .before .before in
-    every-fails entryTaken (b .before .before .args .entries .now) (b .loop .i) (c .before .before .before .loop-test .taken)
-    (sym (c .before .takes-entry .ensures) ∙ not-true _ (c .if1 .taken)) (b .loop .inv .1)
-
 add-i : tie.Need-add-i Inv-loop μ-loop
 add-i c = omega arith
 
@@ -42,16 +34,10 @@ loop-less c = omega arith
 
 loop-again : tie.Need-loop-again Inv-loop μ-loop
 loop-again c =
-    let b = c .before .before .before .before in (
-      omega arith,
-      every-next entryTaken (b .before .before .args .entries .now) (b .loop .i) (c .before .before .before .loop-test .taken)
-          (sym (c .before .takes-entry .ensures) ∙ not-false _ (c .if1 .left)) (b .loop .inv .1),
-    )
+    let b = c .before .before in joined entryTaken _ (b .before .loop .all) _ _ (b .loop-test .taken) (c .takes-entry .ensures) (b .before .loop .inv)
 
-returns-2 : tie.Need-returns-2 Inv-loop μ-loop
-returns-2 c =
-    let b = c .before in
-    every-done entryTaken (b .before .before .args .entries .now) (b .loop .i) (c .loop-test .left) (b .loop .inv .1)
+returns : tie.Need-returns Inv-loop μ-loop
+returns c = ended entryTaken _ _ _ (c .loop-test .left) (c .before .loop .inv)
 
 pub takes-entries-spec : {M : Type 1} → statement M
-takes-entries-spec = tie.close (tie.spec Inv-loop μ-loop loop-holds mul-takes-entry shared-slice-read-takes-entry takes-entry-requires returns add-i loop-less loop-again returns-2)
+takes-entries-spec = tie.close (tie.spec Inv-loop μ-loop loop-holds mul-takes-entry shared-slice-read-takes-entry takes-entry-requires add-i loop-less loop-again returns)
