@@ -1,7 +1,7 @@
 -- `every` by a flag that goes through a list: the flag so far and the test of what is left are the test of the whole, at the start (`begun`) and one element
 -- on (`joined`), so that past the end the flag is the test of the whole (`ended`). Assumes nothing.
 use mathlib.Core.Path.{_≡_, refl, sym, ap, _∙_}
-use mathlib.Core.Bool.{Bool, true, false, _&&_}
+use mathlib.Core.Bool.{Bool, true, _&&_, and-assoc, and-true}
 use mathlib.Core.List.{List, [], _∷_}
 use Prim.Native.Nat.{ℕ, suc, _+_, _≤_, _<_}
 use native.Mathlib.Numerals.{add-one}
@@ -24,19 +24,8 @@ module _ (p : Float → Bool) (xs : List Float) where
   split i at = ap (every p) (drop-cons xs i nan at) ∙ ap (λ (n : ℕ). p (getD xs i nan) && every p (drop n xs)) (sym (add-one i))
 
   pub joined : (all one : Bool) (i : ℕ) → i < length xs → one ≡ p (getD xs i nan) → SoFar p xs all i → SoFar p xs (all && one) (i + 1)
-  joined all one i at e s = (omega arith, go all (s .1))
-    where
-      rest : Bool
-      rest = every p (drop (i + 1) xs)
-
-      go : (b : Bool) → (b && every p (drop i xs)) ≡ every p xs → ((b && one) && rest) ≡ every p xs
-      go true h = ap (λ (t : Bool). t && rest) e ∙ sym (split i at) ∙ h
-      go false h = h
+  joined all one i at e s = (omega arith, and-assoc all one (every p (drop (i + 1) xs)) ∙ rw (e, ← split i at) (s .1))
 
   pub ended : (all : Bool) (i : ℕ) → length xs ≤ i → SoFar p xs all i → all ≡ every p xs
   unfolding every
-  ended all i h s = go all (ap (λ (ys : List Float). all && every p ys) (sym (drop-of-length-le xs h)) ∙ s .1)
-    where
-      go : (b : Bool) → (b && true) ≡ every p xs → b ≡ every p xs
-      go true e = e
-      go false e = e
+  ended all i h s = sym (and-true all) ∙ ap (λ (ys : List Float). all && every p ys) (sym (drop-of-length-le xs h)) ∙ s .1

@@ -193,14 +193,8 @@ fn takes_components(components: &[f32]) -> bool
 pub fn takes_directions(cos: &[f32], sin: &[f32]) -> bool
     ensures { λ r. ⌜ r ≡ directionsTaken (now (cos .entry)) (now (sin .entry)) ⌝ }
 {
-    if cos.len() != 720 {
-        return false;
-    }
-    if sin.len() != 720 {
-        return false;
-    }
-    if takes_components(cos) {
-        return takes_components(sin);
+    if (cos.len() == 720) & (sin.len() == 720) {
+        return takes_components(cos) & takes_components(sin);
     }
     false
 }
