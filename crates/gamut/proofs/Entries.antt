@@ -1,13 +1,13 @@
 -- Every entry that is filled is a number from 0 to 200 with its sign bit clear, so a table of filled rows is never refused by number 7. Assumes nothing.
-use mathlib.Core.Path.{_≡_, refl, sym, ap, _∙_}
-use mathlib.Core.Bool.{Bool, true, false, _&&_, cond}
-use mathlib.Core.List.{List, [], _∷_, _++_}
+use mathlib.Core.Path.{_≡_, refl}
+use mathlib.Core.Bool.{Bool, true, false, cond}
+use mathlib.Core.List.{List, _++_}
 use Prim.Native.Nat.{ℕ, zero, suc, _≤_}
 use native.Mathlib.Omega.{arith}
 use lib.Ieee.{Float, nan, ofInt}
 use lib.ListN.{getD}
 use Rattle.limits.specs.Taken.{upTo, f32Of, entryTaken, every}
-use Rattle.limits.proofs.Floats.{never}
+use Rattle.limits.proofs.Lists.{each-append, each-true, every-true}
 use Rattle.halving.specs.Midpoint.{halve}
 use Rattle.halving.proofs.Range.{UpTo, halve-up-to, up-to-taken}
 use Rattle.color.specs.Color.{lchInGamut}
@@ -38,12 +38,4 @@ row-taken l cs ss = entries-taken l cs ss 720 0
 
 -- and so is a table of rows that are each taken, one after the other
 pub rows-taken : (row table : List Float) → every entryTaken row ≡ true → every entryTaken table ≡ true → every entryTaken (row ++ table) ≡ true
-unfolding every
-rows-taken [] table r t = t
-rows-taken (x ∷ row) table r t =
-    let h = both (entryTaken x) (every entryTaken row) r in
-    rw (h .0) (rows-taken row table (h .1) t)
-  where
-    both : (a b : Bool) → (a && b) ≡ true → (a ≡ true) × (b ≡ true)
-    both true b h = (refl, h)
-    both false b h = never h
+rows-taken row table r t = every-true entryTaken (row ++ table) (each-append (λ x. entryTaken x ≡ true) row table (each-true entryTaken row r) (each-true entryTaken table t))

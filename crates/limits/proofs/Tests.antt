@@ -1,4 +1,4 @@
--- Tests joined by `&&`: how they may be grouped, what a test that passed or failed says of those joined to it, and a chain of any number of them taken apart (`all-true`) and
+-- Tests joined by `&&`: what a test that passed or failed says of those joined to it, and a chain of any number of them taken apart (`all-true`) and
 -- put together (`true-all`). Assumes nothing.
 use mathlib.Core.Path.{_≡_, refl, sym, _∙_}
 use mathlib.Core.Bool.{Bool, true, false, _&&_}
@@ -8,10 +8,6 @@ use Rattle.limits.proofs.HueCount.{both}
 
 pub joined : (a b : Bool) → a ≡ true → b ≡ true → (a && b) ≡ true
 joined a b p q = rw (p, q)
-
-pub regroup : (a b c : Bool) → ((a && b) && c) ≡ (a && (b && c))
-regroup true b c = refl
-regroup false b c = refl
 
 -- x is what the tests p found: after they passed it is the last test that decides, and after they failed nothing does
 pub passed-on : (p last x : Bool) → x ≡ p → x ≡ true → last ≡ (p && last)

@@ -1,7 +1,7 @@
 -- Two rows of a table that is taken are rows that a pair takes, from the floor of a job that is not broken: of what a pair checks only the entries are left (`rows-left`), and
 -- over such a table nothing is (`pair-says`). Assumes nothing.
 use mathlib.Core.Path.{_≡_, refl, sym, _∙_, subst}
-use mathlib.Core.Bool.{Bool, true, false, _&&_, cond}
+use mathlib.Core.Bool.{Bool, true, false, _&&_, cond, and-true}
 use mathlib.Core.List.{List, [], _∷_}
 use Prim.Native.Nat.{ℕ, _+_, _-_, _/_, _≤_, _<_}
 use native.Mathlib.Nat.{le-refl, div-le-self}
@@ -40,10 +40,6 @@ step-taken k h =
     rw (le-leb 1 (n + 1) (omega arith), le-leb (n + 1) 720 (omega arith))
 
 -- ---- a pair of rows of 720, of which only the entries are left to be checked
-and-true : (b : Bool) → (b && true) ≡ b
-and-true true = refl
-and-true false = refl
-
 pub rows-left :
     {A : Type 0} (k step : ℕ) (floor : Float) (a b : List Float) (room : ℕ) (x : Said A) →
     hueCountTaken k ≡ true → (leb 1 step && leb step 720) ≡ true → chromaTaken floor ≡ true → length a ≡ 720 → length b ≡ 720 → workNeeded 720 ≤ room →

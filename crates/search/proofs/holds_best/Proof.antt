@@ -1,12 +1,12 @@
 -- `search::holds_best` meets its contract: its four tests are those of the specification. Assumes nothing.
 use mathlib.Core.Path.{_≡_, sym, ap, _∙_}
-use mathlib.Core.Bool.{Bool, _&&_}
+use mathlib.Core.Bool.{Bool, _&&_, and-assoc}
 use mathlib.Core.Logic.{⊎-elim}
 use lib.Dec.{ltb}
 use lib.Ieee.{ofBits, ofInt, neg, le}
 use borrow.Author.Needs.{needs}
 use Rattle.limits.specs.Taken.{f32Of}
-use Rattle.limits.proofs.Tests.{passed-on, stopped, regroup}
+use Rattle.limits.proofs.Tests.{passed-on, stopped}
 use Rattle.search_rules.specs.Job.{bestHeld}
 use Rattle.search.proofs.holds_best.Statement.{statement}
 use Rattle.search.proofs.holds_best.Tie as tie
@@ -41,8 +41,8 @@ returns-2 c =
     let d = k .best .given .0 .1 .0 in
     let l = k .best .given .0 .1 .1 .0 in
     passed-on ((le (f32Of 35) x && le x (f32Of 200)) && ltb d levels) (ltb l levels) (c .before .if2 .if3) (dark-held (c .before)) (c .if3 .taken)
-    ∙ regroup (le (f32Of 35) x && le x (f32Of 200)) (ltb d levels) (ltb l levels)
-    ∙ regroup (le (f32Of 35) x) (le x (f32Of 200)) (ltb d levels && ltb l levels)
+    ∙ and-assoc (le (f32Of 35) x && le x (f32Of 200)) (ltb d levels) (ltb l levels)
+    ∙ and-assoc (le (f32Of 35) x) (le x (f32Of 200)) (ltb d levels && ltb l levels)
     ∙ sym (ap (bestHeld levels) (k .best .given .1))
 
 returns-3 : tie.Need-returns-3
@@ -53,8 +53,8 @@ returns-3 c =
     let d = k .best .given .0 .1 .0 in
     let l = k .best .given .0 .1 .1 .0 in
     stopped ((le (f32Of 35) x && le x (f32Of 200)) && ltb d levels) (ltb l levels) (c .before .if2 .if3) (dark-held (c .before)) (c .if3 .left)
-    ∙ regroup (le (f32Of 35) x && le x (f32Of 200)) (ltb d levels) (ltb l levels)
-    ∙ regroup (le (f32Of 35) x) (le x (f32Of 200)) (ltb d levels && ltb l levels)
+    ∙ and-assoc (le (f32Of 35) x && le x (f32Of 200)) (ltb d levels) (ltb l levels)
+    ∙ and-assoc (le (f32Of 35) x) (le x (f32Of 200)) (ltb d levels && ltb l levels)
     ∙ sym (ap (bestHeld levels) (k .best .given .1))
 
 pub holds-best-spec : {M : Type 1} → statement M

@@ -1,6 +1,6 @@
 -- `search::is_unbroken` meets its contract: its tests are those of the specification, two by two. Assumes nothing.
 use mathlib.Core.Path.{_≡_, refl, sym, ap, _∙_}
-use mathlib.Core.Bool.{Bool, true, false, _&&_}
+use mathlib.Core.Bool.{Bool, true, false, _&&_, and-assoc}
 use mathlib.Core.Logic.{⊎-elim}
 use Prim.Native.Nat.{ℕ, _*_, _≤_, _<_}
 use native.Mathlib.Nat.{mul-le-mul}
@@ -10,7 +10,6 @@ use borrow.Author.Needs.{needs}
 use borrow.Author.Tests.{le-leb, lt-leb, leb-true, not-true, not-false}
 use Rattle.limits.specs.Taken.{hueCountTaken}
 use Rattle.limits.proofs.HueCount.{both}
-use Rattle.limits.proofs.Tests.{regroup}
 use Rattle.search_rules.specs.declared.Job.{Job}
 use Rattle.search_rules.specs.Job.{gapHeld, bestHeld, handed, huesHeld, unbroken}
 use Rattle.search.proofs.is_unbroken.Statement.{statement}
@@ -22,7 +21,7 @@ grouped j = (hueCountTaken (j .settings .k) && gapHeld (j .settings .gap)) && ((
 
 group : (j : Job) → grouped j ≡ unbroken j
 unfolding unbroken
-group j = rw (regroup, regroup)
+group j = rw (and-assoc, and-assoc)
 
 module _ (j : Job) where
   abbrev settings-taken : Bool
