@@ -2,11 +2,11 @@
 use crate::numbers;
 use crate::show;
 use color::Srgb8;
+use metrics::Metrics;
 use palette::BackOff;
 use palette::BackedOff;
 use palette::Design;
 use palette::Finding;
-use palette::Metrics;
 use palette::Validation;
 use palette::Verdict;
 

@@ -10,7 +10,7 @@ use lib.Seq.{getD-set-same, getD-set-other, drop-cons}
 use borrow.Author.Count.{below-more}
 use Rattle.color.specs.declared.Srgb8.{Srgb8}
 use Rattle.palette.specs.Derivation.{black}
-use Rattle.palette.specs.Metrics.{darks, lights}
+use Rattle.metrics.specs.Metrics.{darks, lights}
 use Rattle.palette.specs.Inner.{Filled, Measured}
 
 module _ (f : Srgb8 → Float) (colors : List Srgb8) (xs : List Float) where

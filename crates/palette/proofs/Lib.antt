@@ -1,5 +1,3 @@
-pub mod Folds
-pub mod Lent
 pub mod Filling
 pub mod Checking
 pub mod Hues

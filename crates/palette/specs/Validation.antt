@@ -8,14 +8,14 @@ use Rattle.limits.specs.Answers.{Said, value, refused}
 use Rattle.limits.specs.Refusals.{number}
 use Rattle.limits.specs.Taken.{f32Of, hueCountTaken, directionsTaken}
 use Rattle.color.specs.declared.Srgb8.{Srgb8}
-use Rattle.palette.specs.declared.Metrics.{Metrics}
+use Rattle.metrics.specs.declared.Metrics.{Metrics}
 use Rattle.palette.specs.declared.Finding.{Finding}
 use Rattle.palette.specs.declared.Finding.the-variants.{Gap, Spread, Separation, Chroma}
 use Rattle.palette.specs.declared.Verdict as verdict
 use Rattle.palette.specs.declared.Verdict.the-variants as verdict-of
 use Rattle.palette.specs.declared.Validation as validation
 use Rattle.palette.specs.declared.Validation.the-variants as validation-of
-use Rattle.palette.specs.Metrics.{metricsOf}
+use Rattle.metrics.specs.Metrics.{metricsOf}
 
 -- ---- findings
 -- no finding, or one by its number

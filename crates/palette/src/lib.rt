@@ -2,22 +2,21 @@
 // of crates/lcr-core/src/palette.rs, with lent directions.
 use color::Srgb8;
 use gamut::Gamut;
-use limits::Checked;
 use limits::Refusal;
+use metrics::Metrics;
+use limits::Checked;
 ghost use mathlib.Core.Path.{_≡_};
-ghost use mathlib.Core.Bool.{true, false};
+ghost use mathlib.Core.Bool.{true};
 ghost use Prim.Native.Nat.{_≤_};
-ghost use lib.Ieee.{inf, binary32, sub};
-ghost use lib.ListN.{take, drop, replicate};
+ghost use lib.ListN.{replicate};
 ghost use Rattle.limits.specs.Answers.{value};
 ghost use Rattle.limits.specs.Taken.{chromaTaken, directionsTaken};
 ghost use Rattle.limits.specs.Refusals.{checkSaid};
 ghost use Rattle.color.specs.Hue.{colorHue};
-ghost use Rattle.pair_rules.specs.Rows.{greater};
+ghost use Rattle.metrics.specs.Metrics.{lightnessOf, chromaIn, metricsOf};
 ghost use Rattle.palette.specs.Derivation.{huesTaken, designChecked, black, colorsOf, derivationSays, derivationSaid, colorsBeside};
-ghost use Rattle.palette.specs.Metrics.{highest, lowest, greatest, least, lightnessOf, chromaIn, spreadIn, absolute, apart, leastFrom, leastApart, metricsOf};
 ghost use Rattle.palette.specs.Validation.{findings, firstOf, validationSays, verdictSaid, validationSaid, findingNumber};
-ghost use Rattle.palette.specs.BackOff.{judgeAt, endOf, backOffSays, backOffSaid, colorsAfter};
+ghost use Rattle.palette.specs.BackOff.{tried, judgeAt, endOf, backOffSays, backOffSaid, colorsAfter};
 ghost use Rattle.palette.specs.Inner.{Ready, Measurable, Measured, Placed, colorAt};
 
 // What a palette is derived from, but for its chroma.
@@ -44,18 +43,6 @@ pub enum Derivation {
 pub struct Palette {
     pub answer: Derivation,
     pub colors: [Srgb8; 32],
-}
-
-// What is measured of a palette.
-pub struct Metrics {
-    // the least lightness of the light level less the greatest of the dark one
-    pub gap: f32,
-    // how far the lightness ranges within a level
-    pub spread: f32,
-    // the least distance of two hues of a level, in degrees; plus infinity for one hue
-    pub separation: f32,
-    // the least chroma; plus infinity for one hue
-    pub chroma: f32,
 }
 
 // What can be wrong with a palette. The comment is document 01's number.
@@ -101,11 +88,6 @@ pub struct BackedOff {
     pub answer: BackOff,
     pub colors: [Srgb8; 32],
 }
-
-// The greatest and the least finite f32.
-const HIGHEST: f32 = 3.4028235e38;
-
-const LOWEST: f32 = -3.4028235e38;
 
 impl Finding {
     // Document 01's number of a finding.
@@ -216,137 +198,6 @@ pub fn derive(design: Design, chroma: f32, cos: &[f32], sin: &[f32]) -> Palette
     }
 }
 
-// The greatest of some numbers.
-fn greatest(values: &[f32]) -> f32
-    ensures { λ r. ⌜ r ≡ greatest lowest (now (values .entry)) ⌝ }
-{
-    let mut hi = LOWEST;
-    let mut i: usize = 0;
-    while i < values.len() {
-        let v = values[i];
-        if hi < v {
-            hi = v;
-        }
-        i += 1;
-    }
-    hi
-}
-
-// The least of `from` and some numbers.
-fn least(from: f32, values: &[f32]) -> f32
-    ensures { λ r. ⌜ r ≡ least from (now (values .entry)) ⌝ }
-{
-    let mut lo = from;
-    let mut i: usize = 0;
-    while i < values.len() {
-        let v = values[i];
-        if v < lo {
-            lo = v;
-        }
-        i += 1;
-    }
-    lo
-}
-
-// How far some numbers range.
-fn range(values: &[f32]) -> f32
-    ensures { λ r. ⌜ r ≡ spreadIn (now (values .entry)) ⌝ }
-{
-    greatest(values) - least(HIGHEST, values)
-}
-
-// A number without its sign.
-fn absolute(x: f32) -> f32
-    ensures { λ r. ⌜ r ≡ absolute x ⌝ }
-{
-    if x < 0.0 {
-        return -x;
-    }
-    x
-}
-
-// How far apart two hues are, round the shorter way.
-fn apart(a: f32, b: f32) -> f32
-    ensures { λ r. ⌜ r ≡ apart a b ⌝ }
-{
-    let d = absolute(a - b);
-    let other = 360.0 - d;
-    if other < d {
-        return other;
-    }
-    d
-}
-
-// The least of `from` and the distances from one hue to others.
-fn least_from(from: f32, hue: f32, others: &[f32]) -> f32
-    ensures { λ r. ⌜ r ≡ leastFrom from hue (now (others .entry)) ⌝ }
-{
-    let mut lo = from;
-    let mut i: usize = 0;
-    while i < others.len() {
-        let d = apart(hue, others[i]);
-        if d < lo {
-            lo = d;
-        }
-        i += 1;
-    }
-    lo
-}
-
-// The least of `from` and the distances of any two of some hues.
-fn least_apart(from: f32, hues: &[f32]) -> f32
-    ensures { λ r. ⌜ r ≡ leastApart from (now (hues .entry)) ⌝ }
-{
-    let mut lo = from;
-    let mut i: usize = 0;
-    while i < hues.len() {
-        lo = least_from(lo, hues[i], &hues[i + 1..]);
-        i += 1;
-    }
-    lo
-}
-
-// The gap between the levels, by the lightness of their colours.
-fn gap_of(k: usize, l: [f32; 32]) -> f32
-    requires { ⌜ k ≤ 16 ⌝ }
-    ensures { λ r. ⌜ r ≡ sub binary32 (least highest (take k (drop k l))) (greatest lowest (take k l)) ⌝ }
-{
-    let dark = greatest(&l[0..k]);
-    let light = least(HIGHEST, &l[k..k + k]);
-    light - dark
-}
-
-// The greater spread of both levels, by the lightness of their colours.
-fn spread_of(k: usize, l: [f32; 32]) -> f32
-    requires { ⌜ k ≤ 16 ⌝ }
-    ensures { λ r. ⌜ r ≡ greater (spreadIn (take k l)) (spreadIn (take k (drop k l))) ⌝ }
-{
-    let dark = range(&l[0..k]);
-    let light = range(&l[k..k + k]);
-    if dark < light {
-        return light;
-    }
-    dark
-}
-
-// The least distance of two hues of a level, of more than one.
-fn separation_of(k: usize, h: [f32; 32]) -> f32
-    requires { ⌜ k ≤ 16 ⌝ }
-    ensures { λ r. ⌜ r ≡ leastApart (leastApart (inf false) (take k h)) (take k (drop k h)) ⌝ }
-{
-    let dark = least_apart(f32::from_bits(0x7f80_0000), &h[0..k]);
-    least_apart(dark, &h[k..k + k])
-}
-
-// The least chroma of both levels.
-fn chroma_of(k: usize, c: [f32; 32]) -> f32
-    requires { ⌜ k ≤ 16 ⌝ }
-    ensures { λ r. ⌜ r ≡ least (least (inf false) (take k c)) (take k (drop k c)) ⌝ }
-{
-    let dark = least(f32::from_bits(0x7f80_0000), &c[0..k]);
-    least(dark, &c[k..k + k])
-}
-
 // The hues of the first n colours, by directions that are taken.
 fn hues_in(n: usize, colors: [Srgb8; 32], cos: &[f32], sin: &[f32]) -> [f32; 32]
     requires { ⌜ (n ≤ 32) × (directionsTaken (now cos) (now sin) ≡ true) ⌝ }
@@ -386,8 +237,8 @@ fn measure(k: usize, colors: [Srgb8; 32], cos: &[f32], sin: &[f32]) -> Metrics
     let parts = parts_of(k + k, colors);
     let l = parts.l;
     let c = parts.c;
-    let gap = gap_of(k, l);
-    let spread = spread_of(k, l);
+    let gap = metrics::gap_of(k, l);
+    let spread = metrics::spread_of(k, l);
     if k < 2 {
         return Metrics {
             gap,
@@ -396,8 +247,8 @@ fn measure(k: usize, colors: [Srgb8; 32], cos: &[f32], sin: &[f32]) -> Metrics
             chroma: f32::from_bits(0x7f80_0000),
         };
     }
-    let separation = separation_of(k, hues_in(k + k, colors, cos, sin));
-    let chroma = chroma_of(k, c);
+    let separation = metrics::separation_of(k, hues_in(k + k, colors, cos, sin));
+    let chroma = metrics::chroma_of(k, c);
     Metrics {
         gap,
         spread,
@@ -446,7 +297,14 @@ pub fn validate(k: usize, colors: [Srgb8; 32], count: usize, cos: &[f32], sin: &
     Validation::Measured(metrics, verdict)
 }
 
-// Lowers a chroma by 0.05 while it is at least 35, until its palette has no finding.
+// Whether back-off tries a chroma.
+fn tried(c: f32) -> bool
+    ensures { λ r. ⌜ r ≡ tried c ⌝ }
+{
+    35.0 <= c
+}
+
+// Lowers a chroma by 0.05 while it is tried, until its palette has no finding.
 fn lower_from(design: Design, chroma: f32, cos: &[f32], sin: &[f32]) -> BackedOff
     requires { ⌜ Ready design (now cos) (now sin) × (chromaTaken chroma ≡ true) ⌝ }
     ensures { λ r. ⌜ (backOffSaid (r .answer) ≡ value (endOf (judgeAt design (now (cos .entry)) (now (sin .entry))) chroma)) × (r .colors ≡ colorsAfter design (now (cos .entry)) (now (sin .entry)) (value (endOf (judgeAt design (now (cos .entry)) (now (sin .entry))) chroma))) ⌝ }
@@ -454,7 +312,7 @@ fn lower_from(design: Design, chroma: f32, cos: &[f32], sin: &[f32]) -> BackedOf
     let k = design.k;
     let mut c = chroma;
     let mut last = BackOff::Untried;
-    while 35.0 <= c {
+    while tried(c) {
         let colors = colors_of(design, c, cos, sin);
         let verdict = first_finding(k, measure(k, colors, cos, sin));
         match verdict {

@@ -46,7 +46,7 @@ cast-j : tie.Need-cast-j
 cast-j c = search needs
 
 cast-l-of : tie.Need-cast-l-of
-cast-l-of c = let l = levels-in (c .before .before .before .before .before .pre .0) .0 in omega arith
+cast-l-of c = let l = levels-in (c .before .before .before .before .before .pre .0) in omega arith
 
 l-of-requires : tie.Need-l-of-requires
 l-of-requires c κs = search needs
@@ -86,7 +86,7 @@ cast-j-2 : tie.Need-cast-j-2
 cast-j-2 c = search needs
 
 cast-l-of-2 : tie.Need-cast-l-of-2
-cast-l-of-2 c = let l = levels-in (c .before .before .before .before .before .pre .0) .1 in omega arith
+cast-l-of-2 c = let l = levels-in (c .before .before .before .before .before .pre .0) in omega arith
 
 l-of-requires-2 : tie.Need-l-of-requires-2
 l-of-requires-2 c κs = search needs

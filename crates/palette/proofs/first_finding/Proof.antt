@@ -7,7 +7,7 @@ use lib.Dec.{T}
 use lib.Ieee.{binary32, div, lt, ofBits, ofInt, inFloat}
 use borrow.Author.Tests.{le-leb, lt-leb}
 use Rattle.limits.specs.Taken.{f32Of}
-use Rattle.palette.specs.declared.Metrics.{Metrics}
+use Rattle.metrics.specs.declared.Metrics.{Metrics}
 use Rattle.palette.specs.Validation.{Judgement, passed, finding, findings, firstOf}
 use Rattle.palette.proofs.first_finding.Statement.{statement}
 use Rattle.palette.proofs.first_finding.Tie as tie

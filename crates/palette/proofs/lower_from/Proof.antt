@@ -5,14 +5,14 @@ use mathlib.Core.Bool.{true}
 use mathlib.Core.List.{List}
 use Prim.Native.Nat.{ℕ}
 use lib.Dec.{T}
-use lib.Ieee.{Float, binary32, toBits, ofBits, ofInt, round}
+use lib.Ieee.{Float, binary32, toBits, ofBits, round}
 use borrow.Author.Needs.{needs}
 use Rattle.limits.specs.Answers.{value}
 use Rattle.color.specs.declared.Srgb8.{Srgb8}
 use Rattle.palette.specs.declared.Design.{Design}
-use Rattle.palette.specs.declared.Metrics.{Metrics}
+use Rattle.metrics.specs.declared.Metrics.{Metrics}
 use Rattle.palette.specs.Derivation.{colorsOf}
-use Rattle.palette.specs.Metrics.{metricsOf}
+use Rattle.metrics.specs.Metrics.{metricsOf}
 use Rattle.palette.specs.Validation.{Judgement, passed, firstOf, findings, judged, verdictSaid, findingNumber}
 use Rattle.palette.specs.BackOff.{lower, tried, Ending, lastly, passes, endAfter, endOf, judgeAt, backOffSaid, colorsAfter}
 use Rattle.palette.proofs.Ready.{few-hues}
@@ -39,29 +39,31 @@ loop-holds c =
     let s = c .before .before in
     (taken-low (s .args .chroma) (subst T (sym (s .good .1 .0 .1)) tt) (s .pre .1), (0, (refl, refl)))
 
+tried-requires : tie.Need-tried-requires Inv-loop μ-loop
+tried-requires c κs = tt
+
 colors-of-requires : tie.Need-colors-of-requires Inv-loop μ-loop
-colors-of-requires c κs = c .before .before .before .before .pre .0
+colors-of-requires c κs = c .before .before .before .before .before .pre .0
 
 measure-requires : tie.Need-measure-requires Inv-loop μ-loop
-measure-requires c κs = let r = c .before .before .before .before .before .pre .0 in record { hue-count = r .hue-count; directions = r .directions }
+measure-requires c κs = let r = c .before .before .before .before .before .before .pre .0 in record { hue-count = r .hue-count; directions = r .directions }
 
 first-finding-requires : tie.Need-first-finding-requires Inv-loop μ-loop
-first-finding-requires c κs = few-hues (c .before .before .before .before .before .before .pre .0)
+first-finding-requires c κs = few-hues (c .before .before .before .before .before .before .before .pre .0)
 
 enum-told : tie.Need-enum-told Inv-loop μ-loop
 enum-told c = search needs
 
 -- the chroma at hand is tried
-on : (c : tie.In-loop Inv-loop μ-loop) → tried (c .before .loop .c) ≡ true
-unfolding tried ofBits ofInt
-on c = c .loop-test .taken
+on : (c : tie.Then1 Inv-loop μ-loop) → tried (c .before .before .loop .c) ≡ true
+on c = sym (c .before .tried .ensures) ∙ c .if1 .taken
 
 -- what is found of it
-abbrev in-loop : tie.After-first-finding Inv-loop μ-loop → tie.In-loop Inv-loop μ-loop
+abbrev in-loop : tie.After-first-finding Inv-loop μ-loop → tie.Then1 Inv-loop μ-loop
 in-loop f = f .before .before .before
 
 abbrev loop-of : tie.After-first-finding Inv-loop μ-loop → tie.At-loop Inv-loop μ-loop
-loop-of f = in-loop f .before
+loop-of f = in-loop f .before .before
 
 judged-at : (f : tie.After-first-finding Inv-loop μ-loop)
     → judgeAt (loop-of f .before .before .before .args .design) (loop-of f .before .before .before .args .cos .now) (loop-of f .before .before .before .args .sin .now) (loop-of f .loop .c) ≡ verdictSaid (f .first-finding .result)
@@ -113,14 +115,13 @@ no-colors-requires : tie.Need-no-colors-requires Inv-loop μ-loop
 no-colors-requires c κs = tt
 
 returns-2 : tie.Need-returns-2 Inv-loop μ-loop
-unfolding tried ofBits ofInt
 returns-2 c =
-    let l = c .before .before in
+    let l = c .before .before .before in
     let a = l .before .before .before .args in
     let i = l .loop .inv .1 in
-    let e : lastly (i .0) ≡ endOf (judgeAt (a .design) (a .cos .now) (a .sin .now)) (a .chroma) = sym (untried (judgeAt (a .design) (a .cos .now) (a .sin .now)) (l .loop .c) (i .0) (c .before .loop-test .left)) ∙ i .1 .1 in
+    let e : lastly (i .0) ≡ endOf (judgeAt (a .design) (a .cos .now) (a .sin .now)) (a .chroma) = sym (untried (judgeAt (a .design) (a .cos .now) (a .sin .now)) (l .loop .c) (i .0) (sym (c .before .before .tried .ensures) ∙ c .before .if1 .left)) ∙ i .1 .1 in
     (i .1 .0 ∙ ap value e, c .no-colors .ensures ∙ ap (λ (x : Ending). colorsAfter (a .design) (a .cos .now) (a .sin .now) (value x)) e)
 
 pub lower-from-spec : {M : Type 1} → statement M
 lower-from-spec =
-    tie.close (tie.spec Inv-loop μ-loop loop-holds colors-of-requires measure-requires first-finding-requires enum-told returns enum-known-verdict loop-less loop-again no-colors-requires returns-2)
+    tie.close (tie.spec Inv-loop μ-loop loop-holds tried-requires colors-of-requires measure-requires first-finding-requires enum-told returns enum-known-verdict loop-less loop-again no-colors-requires returns-2)

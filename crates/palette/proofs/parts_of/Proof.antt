@@ -6,7 +6,7 @@ use lib.ListN.{length, length-set}
 use borrow.Author.Count.{below-none}
 use Rattle.color.specs.declared.Lab.{Lab}
 use Rattle.color.specs.Color.{chromaOf}
-use Rattle.palette.specs.Metrics.{lightnessOf, chromaIn}
+use Rattle.metrics.specs.Metrics.{lightnessOf, chromaIn}
 use Rattle.palette.specs.Inner.{Filled}
 use Rattle.palette.proofs.Filling.{filled-next}
 use Rattle.palette.proofs.parts_of.Statement.{statement}

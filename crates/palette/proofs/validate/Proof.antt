@@ -11,8 +11,8 @@ use Rattle.limits.specs.Answers.{Said, value, refused}
 use Rattle.limits.specs.Taken.{hueCountTaken, directionsTaken}
 use Rattle.limits.proofs.HueCount.{hue-count}
 use Rattle.color.specs.declared.Srgb8.{Srgb8}
-use Rattle.palette.specs.declared.Metrics.{Metrics}
-use Rattle.palette.specs.Metrics.{metricsOf}
+use Rattle.metrics.specs.declared.Metrics.{Metrics}
+use Rattle.metrics.specs.Metrics.{metricsOf}
 use Rattle.palette.specs.Validation.{Judgement, Judged, firstOf, findings, judged, verdictSaid, validationSays}
 use Rattle.palette.proofs.validate.Statement.{statement}
 use Rattle.palette.proofs.validate.Tie as tie

@@ -6,7 +6,7 @@ use native.Mathlib.Numerals.{add-one}
 use lib.Ieee.{Float, nan}
 use lib.ListN.{length, getD, drop, drop-of-length-le}
 use lib.Seq.{drop-cons}
-use Rattle.palette.specs.Metrics.{folded, leastFrom, leastApart}
+use Rattle.metrics.specs.Metrics.{folded, leastFrom, leastApart}
 
 module _ (f : Float → Float → Float) (xs : List Float) (so all : Float) (i : ℕ) (left : folded f so (drop i xs) ≡ all) where
   pub fold-next : i < length xs → folded f (f so (getD xs i nan)) (drop (i + 1) xs) ≡ all

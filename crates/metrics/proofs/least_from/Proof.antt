@@ -1,4 +1,4 @@
--- `palette::least_from` meets its contract. The invariant: the least of what is left and of the least so far is the least of all. Assumes nothing.
+-- `metrics::least_from` meets its contract. The invariant: the least of what is left and of the least so far is the least of all. Assumes nothing.
 use mathlib.Core.Path.{_≡_, refl, sym, ap, _∙_}
 use mathlib.Core.Logic.{⊎-elim}
 use Prim.Native.Nat.{_+_, _-_, _≤_}
@@ -6,10 +6,10 @@ use native.Mathlib.Omega.{arith}
 use lib.Ieee.{Float, nan}
 use lib.ListN.{length, getD, drop}
 use Rattle.pair_rules.specs.Rows.{lesser}
-use Rattle.palette.specs.Metrics.{apart, leastFrom}
-use Rattle.palette.proofs.Folds.{fold-next, fold-done}
-use Rattle.palette.proofs.least_from.Statement.{statement}
-use Rattle.palette.proofs.least_from.Tie as tie
+use Rattle.metrics.specs.Metrics.{apart, leastFrom}
+use Rattle.metrics.proofs.Folds.{fold-next, fold-done}
+use Rattle.metrics.proofs.least_from.Statement.{statement}
+use Rattle.metrics.proofs.least_from.Tie as tie
 
 abbrev Inv-loop : tie.InvT-loop
 Inv-loop from hue others lo₀ i₀ lo i = (i ≤ length others) × (leastFrom lo hue (drop i others) ≡ leastFrom from hue others)

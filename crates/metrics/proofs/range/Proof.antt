@@ -1,10 +1,10 @@
--- `palette::range` meets its contract. Assumes nothing.
+-- `metrics::range` meets its contract. Assumes nothing.
 use mathlib.Core.Path.{ap, _∙_}
 use lib.Ieee.{Float, binary32, sub, ofBits, round}
 use borrow.Author.Needs.{needs}
-use Rattle.palette.specs.Metrics.{highest, lowest, greatest, spreadIn}
-use Rattle.palette.proofs.range.Statement.{statement}
-use Rattle.palette.proofs.range.Tie as tie
+use Rattle.metrics.specs.Metrics.{highest, lowest, greatest, spreadIn}
+use Rattle.metrics.proofs.range.Statement.{statement}
+use Rattle.metrics.proofs.range.Tie as tie
 
 greatest-requires : tie.Need-greatest-requires
 greatest-requires c κs = search needs

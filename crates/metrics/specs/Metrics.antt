@@ -10,7 +10,7 @@ use Rattle.color.specs.declared.Srgb8.{Srgb8}
 use Rattle.color.specs.Color.{srgb8ToLab, chromaOf}
 use Rattle.color.specs.Hue.{colorHue}
 use Rattle.pair_rules.specs.Rows.{lesser, greater}
-use Rattle.palette.specs.declared.Metrics.{Metrics}
+use Rattle.metrics.specs.declared.Metrics.{Metrics}
 
 -- ---- folds
 -- the greatest and the least finite f32, from which the Rust folds

@@ -1,8 +1,8 @@
--- `palette::absolute` meets its contract. Assumes nothing.
+-- `metrics::absolute` meets its contract. Assumes nothing.
 use lib.Ieee.{ofBits, ofInt}
-use Rattle.palette.specs.Metrics.{absolute}
-use Rattle.palette.proofs.absolute.Statement.{statement}
-use Rattle.palette.proofs.absolute.Tie as tie
+use Rattle.metrics.specs.Metrics.{absolute}
+use Rattle.metrics.proofs.absolute.Statement.{statement}
+use Rattle.metrics.proofs.absolute.Tie as tie
 
 returns : tie.Need-returns
 unfolding absolute ofBits ofInt

@@ -1,4 +1,4 @@
--- `palette::greatest` meets its contract. The invariant: the greatest of what is left and of the greatest so far is the greatest of all. Assumes nothing.
+-- `metrics::greatest` meets its contract. The invariant: the greatest of what is left and of the greatest so far is the greatest of all. Assumes nothing.
 use mathlib.Core.Path.{_≡_, refl, ap, _∙_}
 use mathlib.Core.Logic.{⊎-elim}
 use Prim.Native.Nat.{_+_, _-_, _≤_}
@@ -6,10 +6,10 @@ use native.Mathlib.Omega.{arith}
 use lib.Ieee.{Float, nan, ofBits, round}
 use lib.ListN.{length, getD, drop}
 use Rattle.pair_rules.specs.Rows.{greater}
-use Rattle.palette.specs.Metrics.{lowest, greatest}
-use Rattle.palette.proofs.Folds.{fold-next, fold-done}
-use Rattle.palette.proofs.greatest.Statement.{statement}
-use Rattle.palette.proofs.greatest.Tie as tie
+use Rattle.metrics.specs.Metrics.{lowest, greatest}
+use Rattle.metrics.proofs.Folds.{fold-next, fold-done}
+use Rattle.metrics.proofs.greatest.Statement.{statement}
+use Rattle.metrics.proofs.greatest.Tie as tie
 
 abbrev Inv-loop : tie.InvT-loop
 Inv-loop values hi₀ i₀ hi i = (i ≤ length values) × (greatest hi (drop i values) ≡ greatest lowest values)

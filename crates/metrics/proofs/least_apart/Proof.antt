@@ -1,14 +1,14 @@
--- `palette::least_apart` meets its contract. Assumes nothing.
+-- `metrics::least_apart` meets its contract. Assumes nothing.
 use mathlib.Core.Path.{_≡_, refl, ap, _∙_}
 use Prim.Native.Nat.{_+_, _-_, _≤_}
 use native.Mathlib.Omega.{arith}
 use lib.Ieee.{Float, nan}
 use lib.ListN.{length, getD, drop}
-use Rattle.palette.specs.Metrics.{leastFrom, leastApart}
-use Rattle.palette.proofs.Folds.{apart-next, apart-done}
-use Rattle.palette.proofs.Lent.{rest-part}
-use Rattle.palette.proofs.least_apart.Statement.{statement}
-use Rattle.palette.proofs.least_apart.Tie as tie
+use Rattle.metrics.specs.Metrics.{leastFrom, leastApart}
+use Rattle.metrics.proofs.Folds.{apart-next, apart-done}
+use Rattle.metrics.proofs.Lent.{rest-part}
+use Rattle.metrics.proofs.least_apart.Statement.{statement}
+use Rattle.metrics.proofs.least_apart.Tie as tie
 
 abbrev Inv-loop : tie.InvT-loop
 Inv-loop from hues lo₀ i₀ lo i = (i ≤ length hues) × (leastApart lo (drop i hues) ≡ leastApart from hues)

@@ -1,11 +1,11 @@
--- `palette::apart` meets its contract. Assumes nothing.
+-- `metrics::apart` meets its contract. Assumes nothing.
 use mathlib.Core.Path.{sym}
 use borrow.Author.Needs.{needs}
 use lib.Ieee.{ofBits, ofInt}
 use Rattle.pair_rules.specs.Rows.{lesser}
-use Rattle.palette.specs.Metrics.{apart}
-use Rattle.palette.proofs.apart.Statement.{statement}
-use Rattle.palette.proofs.apart.Tie as tie
+use Rattle.metrics.specs.Metrics.{apart}
+use Rattle.metrics.proofs.apart.Statement.{statement}
+use Rattle.metrics.proofs.apart.Tie as tie
 
 absolute-requires : tie.Need-absolute-requires
 absolute-requires c κs = search needs
