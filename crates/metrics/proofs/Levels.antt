@@ -1,4 +1,4 @@
--- Each metric of 2k colours, by the numbers of their two levels; and the last two of one hue. Assumes nothing.
+-- The last two metrics of one hue; and each metric of 2k colours, by the numbers of their two levels. Assumes nothing.
 use mathlib.Core.Path.{_≡_, refl, _∙_}
 use mathlib.Core.Bool.{false}
 use mathlib.Core.List.{List, map}
@@ -10,6 +10,15 @@ use Rattle.color.specs.Hue.{colorHue}
 use Rattle.pair_rules.specs.Rows.{greater}
 use Rattle.metrics.specs.declared.Metrics.{Metrics}
 use Rattle.metrics.specs.Metrics.{highest, lowest, greatest, least, lightnessOf, chromaIn, darks, lights, gapOf, spreadIn, spreadOf, leastApart, separationOf, leastChroma, metricsOf}
+
+-- "For k = 1 the last two metrics are plus infinity"
+pub one-separation : (colors : List Srgb8) (cs ss : List Float) → separationOf 1 colors cs ss ≡ inf false
+unfolding separationOf
+one-separation colors cs ss = refl
+
+pub one-chroma : (colors : List Srgb8) → leastChroma 1 colors ≡ inf false
+unfolding leastChroma
+one-chroma colors = refl
 
 module _ (k : ℕ) (colors : List Srgb8) (dark light : List Float) where
   gap-is : dark ≡ map lightnessOf (darks k colors) → light ≡ map lightnessOf (lights k colors) → sub binary32 (least highest light) (greatest lowest dark) ≡ gapOf k colors
@@ -34,12 +43,3 @@ module _ (k : ℕ) (colors : List Srgb8) (dark light : List Float) where
   pub chroma-is : dark ≡ map chromaIn (darks k colors) → light ≡ map chromaIn (lights k colors) → 2 ≤ k → least (least (inf false) dark) light ≡ leastChroma k colors
   unfolding leastChroma
   chroma-is d l h = rw (d, l, le-leb 2 k h)
-
--- "For k = 1 the last two metrics are plus infinity"
-pub one-separation : (colors : List Srgb8) (cs ss : List Float) → separationOf 1 colors cs ss ≡ inf false
-unfolding separationOf
-one-separation colors cs ss = refl
-
-pub one-chroma : (colors : List Srgb8) → leastChroma 1 colors ≡ inf false
-unfolding leastChroma
-one-chroma colors = refl

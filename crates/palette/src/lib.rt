@@ -8,13 +8,14 @@ use limits::Checked;
 ghost use mathlib.Core.Path.{_≡_};
 ghost use mathlib.Core.Bool.{true};
 ghost use Prim.Native.Nat.{_≤_};
-ghost use lib.ListN.{replicate};
+ghost use lib.ListN.{length, replicate};
 ghost use Rattle.limits.specs.Answers.{value};
 ghost use Rattle.limits.specs.Taken.{chromaTaken, directionsTaken};
 ghost use Rattle.limits.specs.Refusals.{checkSaid};
 ghost use Rattle.color.specs.Hue.{colorHue};
+ghost use Rattle.gamut.specs.Gamut.{levelOf};
 ghost use Rattle.metrics.specs.Metrics.{lightnessOf, chromaIn, metricsOf};
-ghost use Rattle.palette.specs.Derivation.{huesTaken, designChecked, black, colorsOf, derivationSays, derivationSaid, colorsBeside};
+ghost use Rattle.palette.specs.Derivation.{huesTaken, designChecked, black, shown, colorsOf, derivationSays, derivationSaid, colorsBeside};
 ghost use Rattle.palette.specs.Validation.{findings, firstOf, validationSays, verdictSaid, validationSaid, findingNumber};
 ghost use Rattle.palette.specs.BackOff.{tried, judgeAt, endOf, backOffSays, backOffSaid, colorsAfter};
 ghost use Rattle.palette.specs.Inner.{Ready, Measurable, Measured, Placed, colorAt};
@@ -141,6 +142,16 @@ fn check_design(design: Design, chroma: f32, cos: &[f32], sin: &[f32]) -> Checke
     Checked::Fine
 }
 
+// The colour of a level and a hue, by their indices.
+fn color_of(level: usize, hue: u16, chroma: f32, cos: &[f32], sin: &[f32]) -> Srgb8
+    requires { ⌜ (level ≤ 168) × (hue ≤ 719) × (length (now cos) ≡ 720) × (length (now sin) ≡ 720) ⌝ }
+    ensures { λ r. ⌜ r ≡ shown (levelOf level) chroma (now (cos .entry)) (now (sin .entry)) hue ⌝ }
+{
+    let j = hue as usize;
+    let l = Gamut::l_of(level as u16);
+    color::lch_to_srgb8_gamut_clipped(l, chroma, cos[j], sin[j]).color
+}
+
 // The colour in place i of the 2k: the first k are dark.
 fn color_at(design: Design, chroma: f32, cos: &[f32], sin: &[f32], i: usize) -> Srgb8
     requires { ⌜ Ready design (now cos) (now sin) × Placed design i ⌝ }
@@ -149,13 +160,9 @@ fn color_at(design: Design, chroma: f32, cos: &[f32], sin: &[f32], i: usize) -> 
     let k = design.k;
     let hues = design.hues;
     if i < k {
-        let j = hues[i] as usize;
-        let dark = Gamut::l_of(design.dark as u16);
-        return color::lch_to_srgb8_gamut_clipped(dark, chroma, cos[j], sin[j]).color;
+        return color_of(design.dark, hues[i], chroma, cos, sin);
     }
-    let j = hues[i - k] as usize;
-    let light = Gamut::l_of(design.light as u16);
-    color::lch_to_srgb8_gamut_clipped(light, chroma, cos[j], sin[j]).color
+    color_of(design.light, hues[i - k], chroma, cos, sin)
 }
 
 // Thirty-two zeros.
