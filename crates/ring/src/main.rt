@@ -1,6 +1,5 @@
 // The program `ring`: for each line of standard input, which asks for a placement on a ring, it writes a line with the answer
 // to standard output. What is read and what is written of it is the crate `ring_lines`; here bytes are only moved.
-use ring_lines::pieces;
 
 // How far the input was read.
 struct State {
@@ -33,7 +32,7 @@ fn take_piece(
     let mut more = true;
     let mut at = 0;
     while more && at < piece.len() {
-        let progress = pieces::answer_piece(&piece[at..], buffer, count, row, work, out);
+        let progress = ring_lines::answer_piece(&piece[at..], buffer, count, row, work, out);
         more = write_first(out, progress.written);
         count = progress.held;
         at += progress.taken;
@@ -89,7 +88,7 @@ fn take_all(
 // Answers the line whose newline is missing, if there is one.
 fn finish(buffer: &[u8; 4096], held: usize, row: &mut [f32; 999], work: &mut [u16; 2160]) {
     let mut text = [0u8; 64];
-    let n = pieces::answer_end(buffer, held, row, work, &mut text);
+    let n = ring_lines::answer_end(buffer, held, row, work, &mut text);
     io::write_all(libc::STDOUT_FILENO, &text[0..n]);
 }
 

@@ -9,10 +9,11 @@ use lib.ListN.{length, take, length-append}
 use lib.Seq.{length-take-le}
 use borrow.Author.Tests.{le-leb, lt-leb, leb-true}
 use Rattle.limits.specs.Answers.{refused}
-use Rattle.ring_lines.specs.Answers.{answerBytes, answerOf}
+use Rattle.ring_answers.specs.Answers.{answerBytes, answerOf}
 use Rattle.ring_lines.specs.Pieces.{bytes, longer, keptOf, keep, keptIn, answerKept}
-use Rattle.ring_lines.specs.Promised.{Written}
-use Rattle.ring_lines.specs.Text.{Put}
+use Rattle.ring_answers.specs.Promised.{Written}
+use Rattle.text.specs.Put.{PutIn}
+use Rattle.text.proofs.Put.{put-fits}
 
 module _ (buffer : List ℕ) (long : length buffer ≡ 4096) where
   one-more : (held b : ℕ) → held ≤ 4096 → length (take held buffer ++ b ∷ []) ≡ held + 1
@@ -21,9 +22,10 @@ module _ (buffer : List ℕ) (long : length buffer ≡ 4096) where
       omega (arith, length-append (take held buffer) (b ∷ []))
 
   -- a byte that finds room
-  pub keep-stored : (after : List ℕ) (held b r : ℕ) → held < 4096 → Put buffer held (b ∷ []) after r → keptIn after r ≡ keep b (keptIn buffer held)
+  pub keep-stored : (after : List ℕ) (held b r : ℕ) → held < 4096 → PutIn buffer held (b ∷ []) after r → keptIn after r ≡ keep b (keptIn buffer held)
   unfolding keptIn keptOf
-  keep-stored after held b r h p =
+  keep-stored after held b r h q =
+      let p = put-fits (omega arith) q in
       let e = p .ends in
       let u : r ≤ 4096 = omega arith in
       let v : held ≤ 4096 = omega arith in
@@ -32,9 +34,9 @@ module _ (buffer : List ℕ) (long : length buffer ≡ 4096) where
       rw (le-leb r 4096 u, le-leb held 4096 v, le-leb (length (take held buffer ++ b ∷ [])) 4096 w) (ap bytes (p .holds))
 
   -- a byte that finds none
-  pub keep-full : (held b : ℕ) → 4096 ≤ held → keptIn buffer 4097 ≡ keep b (keptIn buffer held)
+  pub keep-full : (after : List ℕ) (held b : ℕ) → 4096 ≤ held → keptIn after 4097 ≡ keep b (keptIn buffer held)
   unfolding keptIn keptOf
-  keep-full held b h = go (leb held 4096) refl
+  keep-full after held b h = go (leb held 4096) refl
     where
       go : (t : Bool) → leb held 4096 ≡ t → longer ≡ keep b (cond t (bytes (take held buffer)) longer)
       go false e = refl

@@ -1,13 +1,4 @@
-pub mod Put
-pub mod Numbers
-pub mod Places
-pub mod Entries
-pub mod Shape
-pub mod Parted
-pub mod Begun
-pub mod Answering
 pub mod Keeping
 pub mod Stream
 pub mod Taking
 pub mod Promise
-pub mod Examples

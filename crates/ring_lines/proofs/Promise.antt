@@ -3,7 +3,7 @@ use mathlib.Core.Path.{_≡_, sym, ap, _∙_}
 use mathlib.Core.List.{List, _++_, append-assoc}
 use Prim.Native.Nat.{ℕ}
 use lib.ListN.{take}
-use Rattle.ring_lines.specs.Answers.{answersOf}
+use Rattle.ring_answers.specs.Answers.{answersOf}
 use Rattle.ring_lines.specs.Pieces.{Kept, keptIn, keptAfter, writtenFor, writtenAtEnd}
 use Rattle.ring_lines.specs.Promised.{Calls, last, next}
 use Rattle.ring_lines.proofs.Stream.{kept-both, written-both, whole-input}

@@ -8,8 +8,8 @@ use lib.Dec.{leb, eqb}
 use lib.ListN.{length, length-append}
 use borrow.Author.Tests.{lt-leb, leb-false}
 use Rattle.limits.specs.Answers.{refused}
-use Rattle.ring_lines.specs.Fields.{onto, cut, linesOf, lineOf}
-use Rattle.ring_lines.specs.Answers.{lineSays, answerBytes, answerOf, answersTo, answersOf}
+use Rattle.ring_reading.specs.Fields.{onto, cut, linesOf, lineOf}
+use Rattle.ring_answers.specs.Answers.{lineSays, answerBytes, answerOf, answersTo, answersOf}
 use Rattle.ring_lines.specs.Pieces.{Kept, bytes, longer, keptOf, keep, fed, answerKept, writtenAt, keptAfter, writtenFor, writtenAtEnd}
 
 -- ---- a piece and then another

@@ -5,13 +5,13 @@ use mathlib.Core.List.{List, [], _∷_, _++_, append-nil}
 use Prim.Native.Nat.{ℕ, zero, suc, _+_, _≤_, _<_}
 use native.Mathlib.Numerals.{add-one}
 use native.Mathlib.Omega.{arith}
-use lib.Dec.{leb}
+use lib.Dec.{leb, eqb}
 use lib.ListN.{length, take, getD}
 use lib.Seq.{take-suc}
 use borrow.Author.Tests.{eq-eqb, ne-eqb}
 use Rattle.ring_lines.specs.Pieces.{Kept, bytes, longer, keep, fed, answerKept, writtenAt, keptAfter, writtenFor, writtenAtEnd, keptIn}
-use Rattle.ring_lines.specs.Promised.{Written}
-use Rattle.ring_lines.specs.Text.{Put}
+use Rattle.text.specs.Put.{Put}
+use Rattle.ring_answers.specs.Promised.{Written}
 use Rattle.ring_lines.proofs.Stream.{kept-both, written-both}
 
 -- no byte is taken yet
@@ -75,17 +75,20 @@ module _ (kept : Kept) (piece : List ℕ) (at : ℕ) (inside : at < length piece
     )
 
 -- ---- at the input's end
-pub end-none : (buffer : List ℕ) (held : ℕ) (text : List ℕ) → held ≡ 0 → Written (writtenAtEnd (keptIn buffer held)) text 0
+pub end-empty : (buffer : List ℕ) (held : ℕ) → length buffer ≡ 4096 → writtenAtEnd (keptIn buffer held) ≡ cond (eqb held 0) [] (answerKept (keptIn buffer held))
 unfolding keptIn
-end-none buffer held text e = rw e (record { counts = refl; few = omega arith; within = omega arith; holds = refl })
-
-pub end-some : (buffer : List ℕ) (held : ℕ) {text : List ℕ} {r : ℕ} → length buffer ≡ 4096 → (held ≡ 0 → ⊥) → Written (answerKept (keptIn buffer held)) text r
-    → Written (writtenAtEnd (keptIn buffer held)) text r
-unfolding keptIn
-end-some [] held {text} {r} l e w = let z : _≡_ {A = ℕ} 0 4096 = l in absurd (omega arith)
-end-some (b ∷ buffer) zero {text} {r} l e w = absurd (e refl)
-end-some (b ∷ buffer) (suc held) {text} {r} l e w = go (leb (suc held) 4096) w
+end-empty [] held l = let z : _≡_ {A = ℕ} 0 4096 = l in absurd (omega arith)
+end-empty (b ∷ buffer) zero l = refl
+end-empty (b ∷ buffer) (suc held) l = rw (ne-eqb (suc held) 0 (λ e. omega arith)) (go (leb (suc held) 4096))
   where
-    go : (t : Bool) → Written (answerKept (cond t (bytes (b ∷ take held buffer)) longer)) text r → Written (writtenAtEnd (cond t (bytes (b ∷ take held buffer)) longer)) text r
-    go true p = p
-    go false p = p
+    go : (t : Bool) → writtenAtEnd (cond t (bytes (b ∷ take held buffer)) longer) ≡ answerKept (cond t (bytes (b ∷ take held buffer)) longer)
+    go true = refl
+    go false = refl
+
+-- nothing, and the answer
+module _ (buffer : List ℕ) (held : ℕ) (text : List ℕ) {t : Bool} (e : writtenAtEnd (keptIn buffer held) ≡ cond t [] (answerKept (keptIn buffer held))) where
+  pub end-none : t ≡ true → Written (writtenAtEnd (keptIn buffer held)) text 0
+  end-none h = rw (e, h) (record { counts = refl; few = omega arith; within = omega arith; holds = refl })
+
+  pub end-some : {r : ℕ} → t ≡ false → Written (answerKept (keptIn buffer held)) text r → Written (writtenAtEnd (keptIn buffer held)) text r
+  end-some h w = rw (e, h) w

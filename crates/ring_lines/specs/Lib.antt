@@ -1,9 +1,2 @@
-pub mod Numbers
-pub mod Fields
-pub mod Answers
 pub mod Pieces
-pub mod Reads
 pub mod Promised
-pub mod Example
-pub mod Text
-pub mod Inner

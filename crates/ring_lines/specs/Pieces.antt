@@ -5,7 +5,7 @@ use mathlib.Core.List.{List, [], _∷_, _++_}
 use lib.Dec.{leb, eqb}
 use lib.ListN.{length, take}
 use Rattle.limits.specs.Answers.{refused}
-use Rattle.ring_lines.specs.Answers.{answerBytes, answerOf}
+use Rattle.ring_answers.specs.Answers.{answerBytes, answerOf}
 
 -- a line's bytes while there are at most 4,096, and then only that there are more
 pub data Kept : Type 0 where

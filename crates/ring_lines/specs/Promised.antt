@@ -3,15 +3,9 @@ use mathlib.Core.Path.{_≡_}
 use mathlib.Core.List.{List, [], _++_}
 use Prim.Native.Nat.{ℕ, _≤_, _<_}
 use lib.ListN.{length, take}
-use Rattle.ring_lines.specs.declared.pieces.Progress.{Progress}
+use Rattle.ring_answers.specs.Promised.{Written}
+use Rattle.ring_lines.specs.declared.Progress.{Progress}
 use Rattle.ring_lines.specs.Pieces.{Kept, keptIn, keptAfter, writtenFor, writtenAtEnd}
-
--- the first r bytes of a text are these, of which there are at most 64
-pub record Written (answer text : List ℕ) (r : ℕ) : Type 0 where
-  pub counts : r ≡ length answer
-  pub few : r ≤ 64
-  pub within : r ≤ length text
-  pub holds : take r text ≡ answer
 
 -- a part of a piece was taken, some of it if there is any: what was written for it, and what is kept after it
 pub record Taken (kept : Kept) (piece buffer out : List ℕ) (r : Progress) : Type 0 where

@@ -1,0 +1,4 @@
+pub mod Answers
+pub mod Example
+pub mod Promised
+pub mod Inner
