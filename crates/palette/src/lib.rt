@@ -2,9 +2,9 @@
 // of crates/lcr-core/src/palette.rs, with lent directions.
 use color::Srgb8;
 use gamut::Gamut;
+use limits::Checked;
 use limits::Refusal;
 use metrics::Metrics;
-use limits::Checked;
 ghost use mathlib.Core.Path.{_≡_};
 ghost use mathlib.Core.Bool.{true};
 ghost use Prim.Native.Nat.{_≤_};
