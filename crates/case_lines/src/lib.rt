@@ -1,7 +1,5 @@
 // A list of cases, read from standard input line by line, and what came of it: how many lines of each operation there
 // are, and which lines differ.
-pub mod run;
-
 use cases::Found;
 use cases::Line;
 ghost use mathlib.Core.Path.{_≡_};
@@ -20,7 +18,8 @@ pub struct Replay {
     pub line: Line,
     // whether the last turn brought that line to its end and it is a case
     pub case: bool,
-    // the place of the next byte among those that were read, and how many there are
+    // the bytes that were read last, the place of the next one among them, and how many there are
+    pub buffer: [u8; 4096],
     pub at: usize,
     pub end: usize,
     // whether there may be more to read
@@ -35,21 +34,51 @@ pub struct Replay {
     pub differ: u64,
 }
 
-// Writes the start of a text to standard output.
-fn write(text: [u8; 64], length: usize) {
-    if length <= 64 {
-        io::write_all(libc::STDOUT_FILENO, &text[0..length]);
+// Writes bytes to standard output.
+fn say(bytes: &[u8]) {
+    io::write_all(libc::STDOUT_FILENO, bytes);
+}
+
+// Writes a number in decimal.
+fn say_number(n: u64) {
+    io::print_decimal(libc::STDOUT_FILENO, n);
+}
+
+// Writes a letter of an operation, unless it is 0.
+fn say_letter(letter: u64) {
+    if letter != 0 {
+        let text = [(letter % 256) as u8; 1];
+        say(&text);
     }
 }
 
+// Writes an operation.
+fn say_operation(operation: u64) {
+    let mut rest = operation;
+    let mut i = 0usize;
+    while i < 8 {
+        say_letter(rest >> 56);
+        rest = rest << 8;
+        i += 1;
+    }
+}
+
+// Writes which line differs, with a note.
+fn say_line(number: u64, operation: u64, note: &[u8]) {
+    say(b"line ");
+    say_number(number);
+    say(b": ");
+    say_operation(operation);
+    say(note);
+    say(b"\n");
+}
+
 // Writes how many lines of an operation there are.
-fn report_one(name: u64, count: u64) {
-    let mut text = [0u8; 64];
-    let mut at = cases::put_operation(&mut text, 0, name);
-    at = cases::put_byte(&mut text, at, b' ');
-    at = cases::put_number(&mut text, at, count);
-    at = cases::put_byte(&mut text, at, b'\n');
-    write(text, at);
+fn say_count(name: u64, count: u64) {
+    say_operation(name);
+    say(b" ");
+    say_number(count);
+    say(b"\n");
 }
 
 impl Replay {
@@ -58,6 +87,7 @@ impl Replay {
         Replay {
             line: Line::new(),
             case: false,
+            buffer: [0u8; 4096],
             at: 0,
             end: 0,
             more: true,
@@ -74,14 +104,7 @@ impl Replay {
     {
         if self.differ < SHOWN {
             let line = self.line;
-            let mut text = [0u8; 64];
-            let mut at = cases::put_bytes(&mut text, 0, b"line ");
-            at = cases::put_number(&mut text, at, line.number);
-            at = cases::put_bytes(&mut text, at, b": ");
-            at = cases::put_operation(&mut text, at, line.operation);
-            at = cases::put_bytes(&mut text, at, note);
-            at = cases::put_byte(&mut text, at, b'\n');
-            write(text, at);
+            say_line(line.number, line.operation, note);
         }
         self.differ = cases::counted(self.differ);
         self
@@ -95,6 +118,16 @@ impl Replay {
             return self;
         }
         self.differs(note)
+    }
+
+    // With one more line that differs, unless it gives what is expected.
+    pub fn agreed(self, same: bool) -> Replay {
+        self.unless(same, b"")
+    }
+
+    // With one more line that differs, unless a list may have it.
+    pub fn formed(self, fine: bool) -> Replay {
+        self.unless(fine, b" malformed")
     }
 
     // With one more line of the operation at a place. The operations before the first case only set something.
@@ -119,16 +152,17 @@ impl Replay {
                 self.case = true;
                 self
             }
-            Found::Malformed => self.differs(b" malformed"),
+            Found::Malformed => self.formed(false),
         }
     }
 
     // With bytes taken up to the end of a line, or all that were read.
-    fn fed(self, bytes: &[u8]) -> Replay {
+    fn fed(self) -> Replay {
+        let bytes = self.buffer;
         let end = self.end;
         let mut line = self.line;
         let mut at = self.at;
-        while at < bytes.len() {
+        while at < 4096 {
             line = line.fed(bytes[at]);
             at += 1;
             if line.ended || end <= at {
@@ -139,26 +173,24 @@ impl Replay {
     }
 
     // With bytes read once.
-    fn refilled(mut self, buffer: &mut [u8]) -> Replay {
-        let got = libc::read(libc::STDIN_FILENO, buffer);
+    fn refilled(mut self) -> Replay {
+        let mut buffer = [0u8; 4096];
+        let got = libc::read(libc::STDIN_FILENO, &mut buffer);
         self.at = 0;
-        self.end = io::count(got, buffer);
+        self.end = io::count(got, &buffer);
         self.more = 0 < got;
         self.whole = got == 0;
+        self.buffer = buffer;
         self
     }
 
     // One turn: takes the bytes that were read up to the end of a line, or reads more.
-    pub fn turned(mut self, buffer: &mut [u8]) -> Replay {
-        let at = self.at;
-        let end = self.end;
+    pub fn turned(mut self) -> Replay {
         self.case = false;
-        if at < end {
-            if at < buffer.len() {
-                return self.fed(buffer);
-            }
+        if self.at < self.end {
+            return self.fed();
         }
-        self.refilled(buffer)
+        self.refilled()
     }
 
     // With what was left undone at the end: the list not read whole, a line cut, or a case missing that a line waits for.
@@ -171,7 +203,7 @@ impl Replay {
             Found::Open => self,
             Found::Nothing => self.unless(!waits, note),
             Found::Case => self,
-            Found::Malformed => self.differs(b" malformed"),
+            Found::Malformed => self.formed(false),
         }
     }
 
@@ -179,7 +211,7 @@ impl Replay {
     fn report_at(self, names: &[u64], place: usize) {
         if place < names.len() {
             if place < 24 {
-                report_one(names[place], self.counts[place]);
+                say_count(names[place], self.counts[place]);
             }
         }
     }
@@ -196,11 +228,9 @@ impl Replay {
     // Writes what came of the list.
     pub fn report(self, names: &[u64]) {
         self.report_each(names);
-        let mut text = [0u8; 64];
-        let mut at = cases::put_number(&mut text, 0, self.cases);
-        at = cases::put_bytes(&mut text, at, b" cases, ");
-        at = cases::put_number(&mut text, at, self.differ);
-        at = cases::put_bytes(&mut text, at, b" differ\n");
-        write(text, at);
+        say_number(self.cases);
+        say(b" cases, ");
+        say_number(self.differ);
+        say(b" differ\n");
     }
 }

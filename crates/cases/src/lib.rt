@@ -1,20 +1,11 @@
-// A reader of case lists, and what the programs that replay such lists share.
+// A reader of case lists.
 //
 // A list is text. A line that starts with `#` is a comment, and an empty line says nothing. Any other
 // line is a case: an operation of at most 8 lowercase letters and digits, then at most 24 words of at most
 // 8 lowercase hexadecimal digits, with one space before each and a newline at the end.
-pub mod digest;
-pub mod directions;
-pub mod entries;
-pub mod hues;
-pub mod rubbish;
-
 ghost use mathlib.Core.Path.{_≡_};
-ghost use Prim.Native.Nat.{_≤_};
-ghost use lib.Ieee.{binary32, nanBits, ofBits};
 ghost use Rattle.cases.specs.Counts.{countedOf};
 ghost use Rattle.cases.specs.Found.{foundOf, leftOf};
-ghost use Rattle.cases.specs.Same.{sameFloat};
 
 // What the bytes of a line have been so far.
 pub enum Stage {
@@ -78,11 +69,6 @@ pub fn place_of(names: &[u64], operation: u64) -> usize {
         i += 1;
     }
     i
-}
-
-// A word as a place or a length.
-pub fn size_of(word: u32) -> usize {
-    word as usize
 }
 
 // Whether an operation may have this byte.
@@ -263,97 +249,4 @@ impl Line {
             Stage::Spoiled => Found::Malformed,
         }
     }
-}
-
-// Whether a pattern is a NaN's.
-fn is_nan_pattern(bits: u32) -> bool
-    ensures { λ r. ⌜ r ≡ nanBits binary32 bits ⌝ }
-{
-    0x7f80_0000 < bits % 0x8000_0000
-}
-
-// The float of a pattern, of which every NaN's gives the NaN.
-pub fn float_of(bits: u32) -> f32
-    ensures { λ r. ⌜ r ≡ ofBits binary32 bits ⌝ }
-{
-    if is_nan_pattern(bits) {
-        return 0.0 / 0.0;
-    }
-    f32::from_bits(bits)
-}
-
-// Whether a result has the pattern that is expected of it, where every NaN has every NaN's.
-pub fn same_float(r: f32, bits: u32) -> bool
-    ensures { λ s. ⌜ s ≡ sameFloat r bits ⌝ }
-{
-    if r != r {
-        return is_nan_pattern(bits);
-    }
-    f32::to_bits(r) == bits
-}
-
-// The pattern of a float, which is the same for every NaN.
-pub fn pattern_of(x: f32) -> u32 {
-    if x != x {
-        return 0x7fc0_0000;
-    }
-    f32::to_bits(x)
-}
-
-// Puts a byte at a place of a text, and gives the next place. What does not fit is left out.
-pub fn put_byte(text: &mut [u8; 64], at: usize, byte: u8) -> usize
-    ensures { λ r. ⌜ r ≤ 64 ⌝ }
-{
-    if at < 64 {
-        text[at] = byte;
-        return at + 1;
-    }
-    64
-}
-
-// Puts bytes at a place of a text, and gives the next place.
-pub fn put_bytes(text: &mut [u8; 64], at: usize, bytes: &[u8]) -> usize {
-    let mut to = at;
-    let mut i = 0;
-    while i < bytes.len() {
-        to = put_byte(text, to, bytes[i]);
-        i += 1;
-    }
-    to
-}
-
-// Puts an operation at a place of a text, and gives the next place.
-pub fn put_operation(text: &mut [u8; 64], at: usize, operation: u64) -> usize {
-    let mut to = at;
-    let mut rest = operation;
-    let mut i = 0usize;
-    while i < 8 {
-        let byte = ((rest >> 56) % 256) as u8;
-        if byte != 0 {
-            to = put_byte(text, to, byte);
-        }
-        rest = rest << 8;
-        i += 1;
-    }
-    to
-}
-
-// The greatest power of ten that is at most n, or 1.
-fn leading_unit(n: u64) -> u64 {
-    let mut unit = 1;
-    while 10 <= n / unit {
-        unit *= 10;
-    }
-    unit
-}
-
-// Puts a number in decimal at a place of a text, and gives the next place.
-pub fn put_number(text: &mut [u8; 64], at: usize, n: u64) -> usize {
-    let mut to = at;
-    let mut unit = leading_unit(n);
-    while 0 < unit {
-        to = put_byte(text, to, b'0' + (n / unit % 10) as u8);
-        unit /= 10;
-    }
-    to
 }

@@ -1,7 +1,8 @@
 // The operations whose result turns on the line's words alone, each held to the words after its inputs.
 use crate::operations;
-use cases::float_of;
-use cases::same_float;
+use case_words::float_at;
+use case_words::same_at;
+use case_words::word_at;
 use color::Lab;
 use color::Linear;
 use color::Srgb8;
@@ -10,29 +11,29 @@ use roots::Root;
 // The first three words as a colour by its floats.
 fn linear_of(words: [u32; 24]) -> Linear {
     Linear {
-        r: float_of(words[0]),
-        g: float_of(words[1]),
-        b: float_of(words[2]),
+        r: float_at(words, 0),
+        g: float_at(words, 1),
+        b: float_at(words, 2),
     }
 }
 
 // The first three words as a Lab colour.
 pub fn lab_of(words: [u32; 24]) -> Lab {
     Lab {
-        l: float_of(words[0]),
-        a: float_of(words[1]),
-        b: float_of(words[2]),
+        l: float_at(words, 0),
+        a: float_at(words, 1),
+        b: float_at(words, 2),
     }
 }
 
 // The first three words as XYZ.
 fn xyz_of(words: [u32; 24]) -> [f32; 3] {
-    [float_of(words[0]), float_of(words[1]), float_of(words[2])]
+    [float_at(words, 0), float_at(words, 1), float_at(words, 2)]
 }
 
 // Whether the first three words are codes.
 fn has_codes(words: [u32; 24]) -> bool {
-    words[0] < 256 && words[1] < 256 && words[2] < 256
+    word_at(words, 0) < 256 && word_at(words, 1) < 256 && word_at(words, 2) < 256
 }
 
 // The low byte of a word.
@@ -43,15 +44,15 @@ fn low_byte(word: u32) -> u8 {
 // The first three words as codes.
 fn codes_of(words: [u32; 24]) -> Srgb8 {
     Srgb8 {
-        r: low_byte(words[0]),
-        g: low_byte(words[1]),
-        b: low_byte(words[2]),
+        r: low_byte(word_at(words, 0)),
+        g: low_byte(word_at(words, 1)),
+        b: low_byte(word_at(words, 2)),
     }
 }
 
 // Whether three floats are the three words after the first three.
 fn same_floats(x: f32, y: f32, z: f32, words: [u32; 24]) -> bool {
-    same_float(x, words[3]) && same_float(y, words[4]) && same_float(z, words[5])
+    same_at(x, words, 3) && same_at(y, words, 4) && same_at(z, words, 5)
 }
 
 // Whether a colour by its floats is that of the three words after the first three.
@@ -77,31 +78,37 @@ fn same_codes(c: Srgb8, r: u32, g: u32, b: u32) -> bool {
 // Whether a root is the one that is expected, or is refused with the number that is.
 fn same_root(root: Root, words: [u32; 24]) -> bool {
     match root {
-        Root::Is(r) => words[1] == 0 && same_float(r, words[2]),
-        Root::Refused(why) => words[1] == why.number() as u32 && words[2] == 0,
+        Root::Is(r) => word_at(words, 1) == 0 && same_at(r, words, 2),
+        Root::Refused(why) => word_at(words, 1) == why.number() as u32 && word_at(words, 2) == 0,
     }
 }
 
 // Whether a clipped colour is the one that is expected.
 fn same_clipped(words: [u32; 24]) -> bool {
     let clipped = color::lch_to_srgb8_gamut_clipped(
-        float_of(words[0]),
-        float_of(words[1]),
-        float_of(words[2]),
-        float_of(words[3]),
+        float_at(words, 0),
+        float_at(words, 1),
+        float_at(words, 2),
+        float_at(words, 3),
     );
     let codes = clipped.color;
-    same_codes(codes, words[4], words[5], words[6]) && same_float(clipped.chroma, words[7])
+    same_codes(
+        codes,
+        word_at(words, 4),
+        word_at(words, 5),
+        word_at(words, 6),
+    )
+        && same_at(clipped.chroma, words, 7)
 }
 
 // The operations on one float.
 fn agrees_of_one(operation: u64, words: [u32; 24]) -> bool {
-    let x = float_of(words[0]);
+    let x = float_at(words, 0);
     match operation {
         operations::SQRT => same_root(roots::sqrt(x), words),
         operations::CBRT => same_root(roots::cbrt(x), words),
-        operations::LABF => same_float(color::lab_f(x), words[1]),
-        operations::LABFINV => same_float(color::lab_f_inv(x), words[1]),
+        operations::LABF => same_at(color::lab_f(x), words, 1),
+        operations::LABFINV => same_at(color::lab_f_inv(x), words, 1),
         _ => false,
     }
 }
@@ -123,11 +130,16 @@ fn agrees_of_codes(operation: u64, words: [u32; 24]) -> bool {
 fn agrees_of_linear(operation: u64, words: [u32; 24]) -> bool {
     let c = linear_of(words);
     match operation {
-        operations::L2S => same_codes(color::linear_to_srgb8(c), words[3], words[4], words[5]),
+        operations::L2S => same_codes(
+            color::linear_to_srgb8(c),
+            word_at(words, 3),
+            word_at(words, 4),
+            word_at(words, 5),
+        ),
         operations::L2X => same_xyz(color::linear_to_xyz(c), words),
         operations::L2LAB => same_lab(color::linear_to_lab(c), words),
         operations::CLAMP => same_linear(c.clamped(), words),
-        operations::GAMUT => c.in_gamut() as u32 == words[3],
+        operations::GAMUT => c.in_gamut() as u32 == word_at(words, 3),
         _ => false,
     }
 }
@@ -148,7 +160,7 @@ fn agrees_of_lab(operation: u64, words: [u32; 24]) -> bool {
     match operation {
         operations::LAB2X => same_xyz(color::lab_to_xyz(lab), words),
         operations::LAB2L => same_linear(color::lab_to_linear(lab), words),
-        operations::CHROMA => same_float(lab.chroma(), words[3]),
+        operations::CHROMA => same_at(lab.chroma(), words, 3),
         _ => false,
     }
 }

@@ -7,39 +7,40 @@ mod digest;
 mod operations;
 mod rows;
 
-use case_lines::run::Run;
+use case_directions::run::Run;
 
 // Takes a case. Its operation must be known and have its number of words.
-fn take_case(run: Run, cos: &mut [f32; 720], sin: &mut [f32; 720]) -> Run {
+fn take_case(run: Run) -> Run {
     let line = run.line();
     let operation = line.operation;
     let place = operations::place_of(operation);
     if !operations::takes(place, line.count) {
-        return run.unless(false, b" malformed");
+        return run.formed(false);
     }
     let next = run.counting(place, operations::FIRST_CASE);
     let words = line.words;
+    let all = run.directions;
     match operation {
-        operations::DIR => next.with_dir(cos, sin),
+        operations::DIR => next.with_dir(),
         operations::BAD => next.with_bad(),
         operations::LEN => next.with_len(720),
         operations::SIZE => next.with_size(800),
-        operations::ROW => rows::take_row(next, cos, sin),
-        _ => next.unless(compare::agrees(operation, words, cos, sin), b""),
+        operations::ROW => rows::take_row(next),
+        _ => next.agreed(compare::agrees(operation, words, all)),
     }
 }
 
 // Reads the list to its end. A proved loop ends, so it counts turns down.
-fn take_all(cos: &mut [f32; 720], sin: &mut [f32; 720], buffer: &mut [u8]) -> Run {
+fn take_all() -> Run {
     let mut run = Run::new();
     let mut turns = case_lines::TURNS;
     while turns > 0 {
-        run = run.turned(buffer);
+        run = run.turned();
         if run.done() {
             return run;
         }
         if run.has_case() {
-            run = take_case(run, cos, sin);
+            run = take_case(run);
         }
         turns -= 1;
     }
@@ -48,10 +49,7 @@ fn take_all(cos: &mut [f32; 720], sin: &mut [f32; 720], buffer: &mut [u8]) -> Ru
 
 // Replays the list and says what came of it.
 fn main() {
-    let mut cos = [0.0f32; 720];
-    let mut sin = [0.0f32; 720];
-    let mut buffer = io::large_buffer();
-    let run = take_all(&mut cos, &mut sin, &mut buffer);
+    let run = take_all();
     let names = operations::NAMES;
     run.finished(b", and a row is missing").report(&names);
 }

@@ -1,7 +1,8 @@
 // What standard input says, in the form of the case lists: `ask k gap` once, and `dir j cos sin` for each direction.
+use case_directions::Directions;
 use case_lines::Replay;
-use cases::Line;
-use cases::directions;
+use case_words::float_at;
+use case_words::size_at;
 use search::Settings;
 
 // ask k gap: how many hues, and how far apart the two levels must be, less 1
@@ -10,29 +11,34 @@ const ASK: u64 = 0x61_736b;
 // dir j cos sin: sets direction j
 const DIR: u64 = 0x64_6972;
 
-// What was read, but for the directions.
+// What was read.
 pub struct Input {
     pub replay: Replay,
+    pub directions: Directions,
     // whether it was said what is asked, and what
     pub asked: bool,
     pub settings: Settings,
 }
 
 impl Input {
-    // Nothing was read.
+    // Nothing was read. A direction that is not given is a NaN, which is refused.
     fn new() -> Input {
         Input {
             replay: Replay::new(),
+            directions: Directions::all(0.0 / 0.0),
             asked: false,
             settings: Settings { k: 0, gap: 0.0 },
         }
     }
 
-    // With the next line or bytes read.
-    fn turned(mut self, buffer: &mut [u8]) -> Input {
+    // One turn: reads on, and takes the line if one has just ended that says something.
+    fn turned(mut self) -> Input {
         let replay = self.replay;
-        let next = replay.turned(buffer);
+        let next = replay.turned();
         self.replay = next;
+        if next.case {
+            return self.told();
+        }
         self
     }
 
@@ -42,38 +48,48 @@ impl Input {
         replay.more
     }
 
-    // Whether a line has just ended that says something.
-    fn has_line(self) -> bool {
-        let replay = self.replay;
-        replay.case
-    }
-
     // With a line that is malformed unless it is as it should be.
-    fn unless(mut self, same: bool) -> Input {
+    fn formed(mut self, fine: bool) -> Input {
         let replay = self.replay;
-        let next = replay.unless(same, b" malformed");
+        let next = replay.formed(fine);
         self.replay = next;
         self
     }
 
+    // With a direction set.
+    fn with_dir(mut self, words: [u32; 24]) -> Input {
+        let directions = self.directions;
+        let next = directions.set(words);
+        self.directions = next;
+        self.formed(case_directions::is_one(words))
+    }
+
+    // With what is asked, which is said once.
+    fn with_ask(mut self, words: [u32; 24]) -> Input {
+        if self.asked {
+            return self.formed(false);
+        }
+        let settings = Settings {
+            k: size_at(words, 0),
+            gap: float_at(words, 1),
+        };
+        self.asked = true;
+        self.settings = settings;
+        self
+    }
+
     // With what its line says.
-    fn told(mut self, cos: &mut [f32; 720], sin: &mut [f32; 720]) -> Input {
+    fn told(self) -> Input {
         let replay = self.replay;
         let line = replay.line;
         let words = line.words;
         if line.operation == DIR && line.count == 3 {
-            return self.unless(directions::set(words, cos, sin));
+            return self.with_dir(words);
         }
-        if line.operation == ASK && line.count == 2 && !self.asked {
-            let settings = Settings {
-                k: cases::size_of(words[0]),
-                gap: cases::float_of(words[1]),
-            };
-            self.asked = true;
-            self.settings = settings;
-            return self;
+        if line.operation == ASK && line.count == 2 {
+            return self.with_ask(words);
         }
-        self.unless(false)
+        self.formed(false)
     }
 
     // Whether it was read to its end, says what is asked, and has no line that it may not have.
@@ -85,17 +101,11 @@ impl Input {
 }
 
 // Reads to the end. A proved loop ends, so it counts turns down.
-pub fn read(cos: &mut [f32; 720], sin: &mut [f32; 720], buffer: &mut [u8]) -> Input {
+pub fn read() -> Input {
     let mut input = Input::new();
     let mut turns = case_lines::TURNS;
-    while turns > 0 {
-        input = input.turned(buffer);
-        if !input.more() {
-            return input;
-        }
-        if input.has_line() {
-            input = input.told(cos, sin);
-        }
+    while turns > 0 && input.more() {
+        input = input.turned();
         turns -= 1;
     }
     input

@@ -50,16 +50,9 @@ fn finish(found: Job, cos: &[f32], sin: &[f32]) {
     }
 }
 
-// Fills the table, searches it, and writes what is found.
-fn run(settings: Settings, cos: &[f32; 720], sin: &[f32; 720]) {
-    let mut entries = [0.0f32; 121680];
-    let filled = table::fill(&mut entries, cos, sin);
-    if filled != 0 {
-        show::refused(filled);
-        return;
-    }
-    show::words(b"filled 169 levels of 720 hues\n");
-    let searched = job::search_in(&entries, settings);
+// Searches a table, and writes what is found.
+fn search_in(table: &[f32], settings: Settings, cos: &[f32], sin: &[f32]) {
+    let searched = job::search_in(table, settings);
     if searched.number != 0 {
         show::refused(searched.number);
         return;
@@ -68,16 +61,27 @@ fn run(settings: Settings, cos: &[f32; 720], sin: &[f32; 720]) {
     finish(last, cos, sin);
 }
 
-// Reads what is asked, and runs where every line is as it should be. A direction that is not given is a NaN, which is refused.
+// Fills the table by these directions, searches it, and writes what is found.
+fn run(settings: Settings, cos: [f32; 720], sin: [f32; 720]) {
+    let mut entries = [0.0f32; 121680];
+    let filled = table::fill(&mut entries, &cos, &sin);
+    if filled != 0 {
+        show::refused(filled);
+        return;
+    }
+    show::words(b"filled 169 levels of 720 hues\n");
+    search_in(&entries, settings, &cos, &sin);
+}
+
+// Reads what is asked, and runs where every line is as it should be.
 fn main() {
-    let missing = 0.0f32 / 0.0;
-    let mut cos = [missing; 720];
-    let mut sin = [missing; 720];
-    let mut buffer = io::large_buffer();
-    let read = input::read(&mut cos, &mut sin, &mut buffer);
+    let read = input::read();
     if read.whole() {
         let settings = read.settings;
+        let all = read.directions;
+        let cos = all.cos;
+        let sin = all.sin;
         show::asked(settings);
-        run(settings, &cos, &sin);
+        run(settings, cos, sin);
     }
 }

@@ -57,7 +57,7 @@ fn decimals(n: u64, most: usize) {
 
 // A float by its bits, and before them in decimal, rounded down to so many decimals, if it is from plus 0 to below 65536.
 pub fn float(x: f32, most: usize) {
-    let bits = cases::pattern_of(x);
+    let bits = patterns::pattern_of(x);
     if bits < 0x4780_0000 {
         let n = fixed(bits);
         whole(n / ONE);

@@ -1,13 +1,18 @@
 // The best of a pair, held to the words after its inputs.
-use cases::hues;
-use cases::rubbish;
+use case_words::entries::Row;
+use case_words::float_at;
+use case_words::hues;
+use case_words::rubbish;
+use case_words::same_at;
+use case_words::size_at;
+use case_words::word_at;
 use pair::Answer;
 
 // Whether an answer is the one that the words say.
 fn same_answer(answer: Answer, words: [u32; 24], found: bool) -> bool {
-    let number = words[4];
+    let number = word_at(words, 4);
     match answer {
-        Answer::Found(chroma) => number == 0 && found && cases::same_float(chroma, words[5]),
+        Answer::Found(chroma) => number == 0 && found && same_at(chroma, words, 5),
         Answer::Nothing => number == 0 && !found,
         Answer::Refused(why) => number == why.number() as u32,
     }
@@ -31,9 +36,9 @@ fn same_best(
     b: &[f32],
     work: &mut [u16],
 ) -> bool {
-    let k = cases::size_of(words[0]);
-    let step = cases::size_of(words[1]);
-    let floor = cases::float_of(words[2]);
+    let k = size_at(words, 0);
+    let step = size_at(words, 1);
+    let floor = float_at(words, 2);
     rubbish::fill(work, seed);
     let chosen = pair::best_for_levels(a, b, k, step, floor, work);
     let answer = chosen.answer;
@@ -51,17 +56,19 @@ fn same_in(
     words: [u32; 24],
     count: usize,
     seed: u32,
-    rows: &[f32],
+    a: [f32; 800],
     first: usize,
+    b: [f32; 800],
     second: usize,
 ) -> bool {
     let mut work = [0u16; 2400];
-    let room = cases::size_of(words[3]);
-    if second <= 800 && room <= 2400 {
-        let end = 800 + second;
-        if first <= rows.len() && end <= rows.len() {
-            let part = &mut work[0..room];
-            return same_best(words, count, seed, &rows[0..first], &rows[800..end], part);
+    let room = size_at(words, 3);
+    if room <= 2400 {
+        if first <= 800 {
+            if second <= 800 {
+                let part = &mut work[0..room];
+                return same_best(words, count, seed, &a[0..first], &b[0..second], part);
+            }
         }
     }
     false
@@ -70,19 +77,15 @@ fn same_in(
 // Whether a pair has as many hues as it may: none, or k after a chroma where it is not refused.
 fn is_whole(words: [u32; 24], count: usize) -> bool {
     if 6 < count {
-        return words[4] == 0 && count - 6 == cases::size_of(words[0]);
+        return word_at(words, 4) == 0 && count - 6 == size_at(words, 0);
     }
     count == 5
 }
 
 // Whether the best of a pair is what the words of the line with this number say.
-pub fn agrees(
-    number: u64,
-    words: [u32; 24],
-    count: usize,
-    rows: &[f32],
-    lengths: &[usize; 2],
-) -> bool {
+pub fn agrees(number: u64, words: [u32; 24], count: usize, first: Row, second: Row) -> bool {
     let seed = rubbish::seed_of(number);
-    is_whole(words, count) && same_in(words, count, seed, rows, lengths[0], lengths[1])
+    let a = first.entries;
+    let b = second.entries;
+    is_whole(words, count) && same_in(words, count, seed, a, first.length, b, second.length)
 }

@@ -7,50 +7,89 @@ mod operations;
 mod rows;
 
 use case_lines::Replay;
+use case_words::word_at;
+use rows::Rows;
 
-// Takes a case. Its operation must be known and have a number of words that it may have.
-fn take_case(replay: Replay, rows: &mut [f32; 1600], lengths: &mut [usize; 2]) -> Replay {
+// What came of the lines so far, and the rows that they set.
+struct State {
+    replay: Replay,
+    rows: Rows,
+}
+
+// With a row as a line sets it, if it can be set so.
+fn set(replay: Replay, rows: Rows) -> State {
     let line = replay.line;
     let operation = line.operation;
-    let place = operations::place_of(operation);
+    let words = line.words;
+    let count = line.count;
+    let which = word_at(words, 0);
+    let row = rows.at(which);
+    if which < 2 && rows::takes(operation, words, count, row) {
+        let next = rows.replaced(which, rows::set(operation, words, count, row));
+        return State { replay, rows: next };
+    }
+    State {
+        replay: replay.formed(false),
+        rows,
+    }
+}
+
+// Takes a line. Its operation must be known and have a number of words that it may have.
+fn take_line(replay: Replay, rows: Rows) -> State {
+    let line = replay.line;
+    let words = line.words;
+    let place = operations::place_of(line.operation);
     if !operations::takes(place, line.count) {
-        return replay.unless(false, b" malformed");
+        return State {
+            replay: replay.formed(false),
+            rows,
+        };
     }
     let next = replay.counting(place, operations::FIRST_CASE);
-    let words = line.words;
     if place < operations::FIRST_CASE {
-        let set = rows::set(operation, words, line.count, rows, lengths);
-        return next.unless(set, b" malformed");
+        return set(next, rows);
     }
-    next.unless(
-        best::agrees(line.number, words, line.count, rows, lengths),
-        b"",
-    )
+    let same = best::agrees(line.number, words, line.count, rows.at(0), rows.at(1));
+    State {
+        replay: next.agreed(same),
+        rows,
+    }
+}
+
+// One turn: reads on, and takes the line if one has just ended.
+fn turned(state: State) -> State {
+    let replay = state.replay;
+    let rows = state.rows;
+    let next = replay.turned();
+    if next.case {
+        return take_line(next, rows);
+    }
+    State { replay: next, rows }
+}
+
+// Whether there is no more to read.
+fn is_done(state: State) -> bool {
+    let replay = state.replay;
+    !replay.more
 }
 
 // Reads the list to its end. A proved loop ends, so it counts turns down.
-fn take_all(rows: &mut [f32; 1600], lengths: &mut [usize; 2], buffer: &mut [u8]) -> Replay {
-    let mut replay = Replay::new();
+fn take_all() -> Replay {
+    let mut state = State {
+        replay: Replay::new(),
+        rows: Rows::new(),
+    };
     let mut turns = case_lines::TURNS;
-    while turns > 0 {
-        replay = replay.turned(buffer);
-        if !replay.more {
-            return replay;
-        }
-        if replay.case {
-            replay = take_case(replay, rows, lengths);
-        }
+    while turns > 0 && !is_done(state) {
+        state = turned(state);
         turns -= 1;
     }
-    replay
+    state.replay
 }
 
 // Replays the list and says what came of it.
 fn main() {
-    let mut rows = [0.0f32; 1600];
-    let mut lengths = [0usize; 2];
-    let mut buffer = io::large_buffer();
-    let replay = take_all(&mut rows, &mut lengths, &mut buffer);
+    let replay = take_all();
     let names = operations::NAMES;
     replay.finished(false, b"").report(&names);
 }

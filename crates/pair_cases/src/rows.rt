@@ -1,66 +1,60 @@
-// The lines that set the rows. Both are kept in one array: the first from place 0 on, the second from place 800 on.
+// The lines that set the rows.
 use crate::operations;
-use cases::entries;
+use case_words::entries;
+use case_words::entries::Row;
+use case_words::float_at;
+use case_words::size_at;
 
-// The place of an entry of a row.
-fn place_of(which: usize, at: usize) -> usize {
-    if which == 0 {
-        return at;
-    }
-    std::num::wrapping_add_usize(at, 800)
+// The two rows.
+pub struct Rows {
+    first: Row,
+    second: Row,
 }
 
-// Sets a row's length, and says whether a row can have it.
-fn set_length(words: [u32; 24], lengths: &mut [usize; 2]) -> bool {
-    let which = cases::size_of(words[0]);
-    let length = cases::size_of(words[1]);
-    if which < 2 {
-        if length <= 800 {
-            lengths[which] = length;
-            return true;
+impl Rows {
+    // Two empty rows.
+    pub fn new() -> Rows {
+        Rows {
+            first: Row::new(),
+            second: Row::new(),
         }
     }
-    false
-}
 
-// Sets entries of a row, each by its own word, and says whether the row has so many.
-fn set_more(words: [u32; 24], count: usize, rows: &mut [f32], lengths: &[usize; 2]) -> bool {
-    let which = cases::size_of(words[0]);
-    let at = cases::size_of(words[1]);
-    if which < 2 {
-        if entries::words_fit(at, 2, count, lengths[which]) {
-            entries::put(rows, place_of(which, at), words, 2, count);
-            return true;
+    // The first row for 0, and the second for any other number.
+    pub fn at(self, which: u32) -> Row {
+        if which == 0 {
+            return self.first;
         }
+        self.second
     }
-    false
-}
 
-// Sets entries of a row, all by one word, and says whether the row has so many.
-fn set_same(words: [u32; 24], rows: &mut [f32], lengths: &[usize; 2]) -> bool {
-    let which = cases::size_of(words[0]);
-    let at = cases::size_of(words[1]);
-    let count = cases::size_of(words[2]);
-    if which < 2 {
-        if entries::fit(at, count, lengths[which]) {
-            entries::put_same(rows, place_of(which, at), count, cases::float_of(words[3]));
-            return true;
+    // With this as the first row for 0, and as the second for any other number.
+    pub fn replaced(mut self, which: u32, row: Row) -> Rows {
+        if which == 0 {
+            self.first = row;
+        } else {
+            self.second = row;
         }
+        self
     }
-    false
 }
 
-// Sets what a line says, and says whether it can be set.
-pub fn set(
-    operation: u64,
-    words: [u32; 24],
-    count: usize,
-    rows: &mut [f32],
-    lengths: &mut [usize; 2],
-) -> bool {
+// Whether a line can set a row so.
+pub fn takes(operation: u64, words: [u32; 24], count: usize, row: Row) -> bool {
+    let at = size_at(words, 1);
     match operation {
-        operations::ROW => set_length(words, lengths),
-        operations::MORE => set_more(words, count, rows, lengths),
-        _ => set_same(words, rows, lengths),
+        operations::ROW => at <= 800,
+        operations::MORE => entries::words_fit(at, 2, count, row.length),
+        _ => entries::fit(at, size_at(words, 2), row.length),
+    }
+}
+
+// The row after such a line: with another length, or with entries by their own words, or all by one word.
+pub fn set(operation: u64, words: [u32; 24], count: usize, row: Row) -> Row {
+    let at = size_at(words, 1);
+    match operation {
+        operations::ROW => row.long(at),
+        operations::MORE => row.put(at, words, 2, count),
+        _ => row.put_same(at, size_at(words, 2), float_at(words, 3)),
     }
 }

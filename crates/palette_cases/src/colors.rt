@@ -1,5 +1,7 @@
 // The 32 colours that a validation is lent and that the other cases hand out, each by one word: the red channel highest.
-use cases::entries;
+use case_words::entries;
+use case_words::size_at;
+use case_words::word_at;
 use color::Srgb8;
 
 // Whether the word at a place is below a limit, or comes before the first that must be.
@@ -19,47 +21,24 @@ pub fn below(words: [u32; 24], from: usize, limit: u32) -> bool {
     true
 }
 
-// Puts the colour that a word says at a place, if there are both.
-fn put_word(colors: &mut [u32; 32], at: usize, words: [u32; 24], i: usize) {
-    if at < 32 {
-        if i < 24 {
-            colors[at] = words[i];
-        }
-    }
-}
-
-// Puts the colours that the words from one of them on say at a place and after it.
-fn put(colors: &mut [u32; 32], at: usize, words: [u32; 24], from: usize, count: usize) {
+// With the colours that the words from one of them on say at a place and after it.
+pub fn put(colors: [u32; 32], at: usize, words: [u32; 24], from: usize, count: usize) -> [u32; 32] {
+    let mut all = colors;
     let mut to = at;
     let mut i = from;
     while i < count {
-        put_word(colors, to, words, i);
+        if to < 32 {
+            all[to] = word_at(words, i);
+        }
         to = std::num::wrapping_add_usize(to, 1);
         i += 1;
     }
+    all
 }
 
-// Sets the first colours and zeros after them, and says whether the words are colours.
-pub fn set_all(words: [u32; 24], count: usize, colors: &mut [u32; 32]) -> bool {
-    if below(words, 0, 0x100_0000) {
-        let zeros = [0u32; 32];
-        *colors = zeros;
-        put(colors, 0, words, 0, count);
-        return true;
-    }
-    false
-}
-
-// Sets the colours from a place on, and says whether the words are colours and there are so many places.
-pub fn set_more(words: [u32; 24], count: usize, colors: &mut [u32; 32]) -> bool {
-    let at = cases::size_of(words[0]);
-    if below(words, 1, 0x100_0000) {
-        if entries::words_fit(at, 1, count, 32) {
-            put(colors, at, words, 1, count);
-            return true;
-        }
-    }
-    false
+// Whether the words after the first are colours, of which there are as many from a place on.
+pub fn takes_more(words: [u32; 24], count: usize) -> bool {
+    below(words, 1, 0x100_0000) && entries::words_fit(size_at(words, 0), 1, count, 32)
 }
 
 // The colour that a word says.
@@ -72,7 +51,7 @@ fn color_of(word: u32) -> Srgb8 {
 }
 
 // The colours that the words say.
-pub fn of(words: &[u32; 32]) -> [Srgb8; 32] {
+pub fn of(words: [u32; 32]) -> [Srgb8; 32] {
     let black = Srgb8 { r: 0, g: 0, b: 0 };
     let mut all = [black; 32];
     let mut i = 0;
@@ -91,7 +70,7 @@ fn is(c: Srgb8, word: u32) -> bool {
 }
 
 // Whether 32 colours are those that the words say.
-pub fn same(given: [Srgb8; 32], words: &[u32; 32]) -> bool {
+pub fn same(given: [Srgb8; 32], words: [u32; 32]) -> bool {
     let mut i = 0;
     while i < 32 {
         if !is(given[i], words[i]) {
@@ -104,6 +83,5 @@ pub fn same(given: [Srgb8; 32], words: &[u32; 32]) -> bool {
 
 // Whether 32 colours are all zero.
 pub fn none(given: [Srgb8; 32]) -> bool {
-    let zeros = [0u32; 32];
-    same(given, &zeros)
+    same(given, [0u32; 32])
 }

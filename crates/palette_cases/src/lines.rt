@@ -2,34 +2,33 @@
 use crate::calls;
 use crate::colors;
 use crate::operations;
-use case_lines::run::Run;
+use case_directions::Lent;
+use case_directions::run::Run;
+use case_words::hues;
+use case_words::size_at;
 use cases::Line;
-use cases::directions::Lent;
-use cases::hues;
 use palette::Design;
+
+// What came of the lines so far, and the design and the colours that they set.
+pub struct State {
+    pub run: Run,
+    pub design: Design,
+    pub colors: [u32; 32],
+}
 
 // The design that these words say, which are 0 after the last hue.
 fn design_of(words: [u32; 24]) -> Design {
     let hues = hues::all_said(words, 3, 19);
     Design {
-        k: cases::size_of(words[0]),
-        dark: cases::size_of(words[1]),
-        light: cases::size_of(words[2]),
+        k: size_at(words, 0),
+        dark: size_at(words, 1),
+        light: size_at(words, 2),
         hues,
     }
 }
 
-// Sets the words of the design, and says whether they say one.
-fn set_design(words: [u32; 24], design: &mut [u32; 24]) -> bool {
-    if colors::below(words, 3, 0x1_0000) {
-        *design = words;
-        return true;
-    }
-    false
-}
-
 // Components with a zero after the last.
-fn lengthened(components: &[f32; 720]) -> [f32; 721] {
+fn lengthened(components: [f32; 720]) -> [f32; 721] {
     let mut long = [0.0f32; 721];
     let mut i = 0;
     while i < 720 {
@@ -43,69 +42,105 @@ fn lengthened(components: &[f32; 720]) -> [f32; 721] {
 fn agrees(
     line: Line,
     lent: Lent,
+    cos: [f32; 721],
+    sin: [f32; 721],
     design: Design,
-    cos: &[f32],
-    sin: &[f32],
-    expected: &[u32; 32],
+    expected: [u32; 32],
 ) -> bool {
-    let words = line.words;
     let cosines = lent.cosines;
     let sines = lent.sines;
-    if cosines <= cos.len() {
-        if sines <= sin.len() {
-            let first = &cos[0..cosines];
-            let second = &sin[0..sines];
-            return calls::agrees(
-                line.operation,
-                words,
-                line.count,
-                design,
-                expected,
-                first,
-                second,
-            );
+    if cosines <= 721 {
+        if sines <= 721 {
+            return calls::agrees(line, design, expected, &cos[0..cosines], &sin[0..sines]);
         }
     }
     false
 }
 
 // Takes a case, with what waited for it.
-fn take_case(
-    run: Run,
-    cos: &mut [f32; 720],
-    sin: &mut [f32; 720],
-    design: Design,
-    expected: &[u32; 32],
-) -> Run {
-    let line = run.line();
+fn take_case(run: Run, design: Design, expected: [u32; 32]) -> Run {
     let lent = run.lent;
-    let kept = lent.exchange(cos, sin, lent.component);
-    let cosines = lengthened(cos);
-    let sines = lengthened(sin);
-    let same = agrees(line, lent, design, &cosines, &sines, expected);
-    lent.exchange(cos, sin, kept);
-    run.settled().unless(same, b"")
+    let all = run.lends();
+    let cos = all.cos;
+    let sin = all.sin;
+    run.settled(agrees(
+        run.line(),
+        lent,
+        lengthened(cos),
+        lengthened(sin),
+        design,
+        expected,
+    ))
 }
 
-// Takes a line.
-pub fn take(
-    run: Run,
-    cos: &mut [f32; 720],
-    sin: &mut [f32; 720],
-    design: &mut [u32; 24],
-    expected: &mut [u32; 32],
-) -> Run {
-    let line = run.line();
-    let operation = line.operation;
-    let words = line.words;
-    let count = line.count;
-    match operation {
-        operations::DIR => run.with_dir(cos, sin),
-        operations::BAD => run.with_bad(),
-        operations::LEN => run.with_len(721),
-        operations::DESIGN => run.unless(set_design(words, design), b" malformed"),
-        operations::COLORS => run.unless(colors::set_all(words, count, expected), b" malformed"),
-        operations::MORE => run.unless(colors::set_more(words, count, expected), b" malformed"),
-        _ => take_case(run, cos, sin, design_of(*design), expected),
+impl State {
+    // No line has come yet.
+    pub fn new() -> State {
+        State {
+            run: Run::new(),
+            design: design_of([0u32; 24]),
+            colors: [0u32; 32],
+        }
+    }
+
+    // With this come of a line.
+    pub fn with_run(mut self, run: Run) -> State {
+        self.run = run;
+        self
+    }
+
+    // With this design, if a line may set it.
+    fn with_design(mut self, fine: bool, design: Design) -> State {
+        let run = self.run;
+        if fine {
+            self.design = design;
+        }
+        self.with_run(run.formed(fine))
+    }
+
+    // With these colours, if a line may set them.
+    fn with_colors(mut self, fine: bool, colors: [u32; 32]) -> State {
+        let run = self.run;
+        if fine {
+            self.colors = colors;
+        }
+        self.with_run(run.formed(fine))
+    }
+
+    // With what a line of colours sets.
+    fn colored(self, operation: u64, words: [u32; 24], count: usize) -> State {
+        let colors = self.colors;
+        let none = [0u32; 32];
+        match operation {
+            operations::COLORS => self.with_colors(
+                colors::below(words, 0, 0x100_0000),
+                colors::put(none, 0, words, 0, count),
+            ),
+            _ => self.with_colors(
+                colors::takes_more(words, count),
+                colors::put(colors, size_at(words, 0), words, 1, count),
+            ),
+        }
+    }
+
+    // With its line taken.
+    pub fn taken(self) -> State {
+        let run = self.run;
+        let design = self.design;
+        let colors = self.colors;
+        let line = run.line();
+        let operation = line.operation;
+        let words = line.words;
+        match operation {
+            operations::DIR => self.with_run(run.with_dir()),
+            operations::BAD => self.with_run(run.with_bad()),
+            operations::LEN => self.with_run(run.with_len(721)),
+            operations::DESIGN => self.with_design(
+                colors::below(words, 3, 0x1_0000),
+                design_of(words),
+            ),
+            operations::COLORS | operations::MORE => self.colored(operation, words, line.count),
+            _ => self.with_run(take_case(run, design, colors)),
+        }
     }
 }

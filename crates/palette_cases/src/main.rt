@@ -7,56 +7,52 @@ mod colors;
 mod lines;
 mod operations;
 
-use case_lines::run::Run;
+use case_directions::run::Run;
+use lines::State;
 
 // Takes a line. Its operation must be known and have a number of words that it may have.
-fn take_line(
-    run: Run,
-    cos: &mut [f32; 720],
-    sin: &mut [f32; 720],
-    design: &mut [u32; 24],
-    expected: &mut [u32; 32],
-) -> Run {
+fn take_line(state: State) -> State {
+    let run = state.run;
     let line = run.line();
     let place = operations::place_of(line.operation);
     if !operations::takes(place, line.count) {
-        return run.unless(false, b" malformed");
+        return state.with_run(run.formed(false));
     }
-    let next = run.counting(place, operations::FIRST_CASE);
-    lines::take(next, cos, sin, design, expected)
+    state
+        .with_run(run.counting(place, operations::FIRST_CASE))
+        .taken()
+}
+
+// One turn: reads on, and takes the line if one has just ended.
+fn turned(state: State) -> State {
+    let run = state.run;
+    let next = run.turned();
+    if next.has_case() {
+        return take_line(state.with_run(next));
+    }
+    state.with_run(next)
+}
+
+// Whether there is no more to read.
+fn is_done(state: State) -> bool {
+    let run = state.run;
+    run.done()
 }
 
 // Reads the list to its end. A proved loop ends, so it counts turns down.
-fn take_all(
-    cos: &mut [f32; 720],
-    sin: &mut [f32; 720],
-    design: &mut [u32; 24],
-    expected: &mut [u32; 32],
-    buffer: &mut [u8],
-) -> Run {
-    let mut run = Run::new();
+fn take_all() -> Run {
+    let mut state = State::new();
     let mut turns = case_lines::TURNS;
-    while turns > 0 {
-        run = run.turned(buffer);
-        if run.done() {
-            return run;
-        }
-        if run.has_case() {
-            run = take_line(run, cos, sin, design, expected);
-        }
+    while turns > 0 && !is_done(state) {
+        state = turned(state);
         turns -= 1;
     }
-    run
+    state.run
 }
 
 // Replays the list and says what came of it.
 fn main() {
-    let mut cos = [0.0f32; 720];
-    let mut sin = [0.0f32; 720];
-    let mut design = [0u32; 24];
-    let mut expected = [0u32; 32];
-    let mut buffer = io::large_buffer();
-    let run = take_all(&mut cos, &mut sin, &mut design, &mut expected, &mut buffer);
+    let run = take_all();
     let names = operations::NAMES;
     run.finished(b", and a case is missing").report(&names);
 }

@@ -5,71 +5,117 @@
 // leaves a work buffer changed.
 mod operations;
 mod places;
-mod rings;
 mod sweeps;
 
 use case_lines::Replay;
-use cases::rubbish;
+use case_words::entries;
+use case_words::entries::Row;
+use case_words::rubbish;
+use case_words::size_at;
 
-// Takes a placement, on a ring of this length.
-fn take_place(replay: Replay, seed: u32, ring: &[f32], length: usize) -> Replay {
-    let line = replay.line;
-    let words = line.words;
-    let count = line.count;
-    if places::is_whole(words, count) {
-        return replay.unless(places::same_in(words, count, seed, ring, length), b"");
-    }
-    replay.unless(false, b" malformed")
+// What came of the lines so far, and the ring that they set.
+struct State {
+    replay: Replay,
+    ring: Row,
 }
 
-// Takes a case. Its operation must be known and have a number of words that it may have.
-fn take_case(replay: Replay, ring: &mut [f32; 800], lengths: &mut [usize; 1]) -> Replay {
+// With a ring of this length and the entries that the words after the first say from a place on, if a ring can have them.
+fn set(replay: Replay, ring: Row, at: usize, length: usize) -> State {
+    let line = replay.line;
+    let words = line.words;
+    let count = line.count;
+    if length <= 800 && entries::words_fit(at, 1, count, length) {
+        let next = ring.long(length).put(at, words, 1, count);
+        return State { replay, ring: next };
+    }
+    State {
+        replay: replay.formed(false),
+        ring,
+    }
+}
+
+// With a placement held to its words.
+fn placed(replay: Replay, seed: u32, ring: Row) -> Replay {
+    let line = replay.line;
+    let words = line.words;
+    let count = line.count;
+    let entries = ring.entries;
+    if places::is_whole(words, count) {
+        return replay.agreed(places::same_in(words, count, seed, entries, ring.length));
+    }
+    replay.formed(false)
+}
+
+// With a case held to its words.
+fn compared(replay: Replay, ring: Row) -> Replay {
     let line = replay.line;
     let operation = line.operation;
-    let count = line.count;
-    let place = operations::place_of(operation);
-    if !operations::takes(place, count) {
-        return replay.unless(false, b" malformed");
-    }
-    let next = replay.counting(place, operations::FIRST_CASE);
     let words = line.words;
     let seed = rubbish::seed_of(line.number);
-    let length = lengths[0];
     match operation {
-        operations::RING => next.unless(
-            rings::set_ring(words, count, ring, lengths),
-            b" malformed",
-        ),
-        operations::MORE => next.unless(rings::set_more(words, count, ring, length), b" malformed"),
-        operations::STEP => next.unless(places::same_step(words), b""),
-        operations::PLACE => take_place(next, seed, ring, length),
-        _ => next.unless(sweeps::agrees(words, count, seed, ring, length), b""),
+        operations::STEP => replay.agreed(places::same_step(words)),
+        operations::PLACE => placed(replay, seed, ring),
+        _ => replay.agreed(sweeps::agrees(words, line.count, seed, ring)),
     }
+}
+
+// Takes a line. Its operation must be known and have a number of words that it may have.
+fn take_line(replay: Replay, ring: Row) -> State {
+    let line = replay.line;
+    let operation = line.operation;
+    let words = line.words;
+    let place = operations::place_of(operation);
+    if !operations::takes(place, line.count) {
+        return State {
+            replay: replay.formed(false),
+            ring,
+        };
+    }
+    let next = replay.counting(place, operations::FIRST_CASE);
+    match operation {
+        operations::RING => set(next, ring, 0, size_at(words, 0)),
+        operations::MORE => set(next, ring, size_at(words, 0), ring.length),
+        _ => State {
+            replay: compared(next, ring),
+            ring,
+        },
+    }
+}
+
+// One turn: reads on, and takes the line if one has just ended.
+fn turned(state: State) -> State {
+    let replay = state.replay;
+    let ring = state.ring;
+    let next = replay.turned();
+    if next.case {
+        return take_line(next, ring);
+    }
+    State { replay: next, ring }
+}
+
+// Whether there is no more to read.
+fn is_done(state: State) -> bool {
+    let replay = state.replay;
+    !replay.more
 }
 
 // Reads the list to its end. A proved loop ends, so it counts turns down.
-fn take_all(ring: &mut [f32; 800], lengths: &mut [usize; 1], buffer: &mut [u8]) -> Replay {
-    let mut replay = Replay::new();
+fn take_all() -> Replay {
+    let mut state = State {
+        replay: Replay::new(),
+        ring: Row::new(),
+    };
     let mut turns = case_lines::TURNS;
-    while turns > 0 {
-        replay = replay.turned(buffer);
-        if !replay.more {
-            return replay;
-        }
-        if replay.case {
-            replay = take_case(replay, ring, lengths);
-        }
+    while turns > 0 && !is_done(state) {
+        state = turned(state);
         turns -= 1;
     }
-    replay
+    state.replay
 }
 
 // Replays the list and says what came of it.
 fn main() {
-    let mut ring = [0.0f32; 800];
-    let mut lengths = [0usize; 1];
-    let mut buffer = io::large_buffer();
-    let replay = take_all(&mut ring, &mut lengths, &mut buffer);
+    let replay = take_all();
     let names = operations::NAMES;
     replay.finished(false, b"").report(&names);
 }

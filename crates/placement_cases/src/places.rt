@@ -1,14 +1,18 @@
 // Steps and placements, each held to the words after its inputs.
-use cases::hues;
-use cases::rubbish;
+use case_words::float_at;
+use case_words::hues;
+use case_words::rubbish;
+use case_words::size_at;
+use case_words::word_at;
 use placement::Answer;
 use placement::Stepping;
 
 // Whether the step for a hue count is the one that is expected, or is refused with the number that is.
 pub fn same_step(words: [u32; 24]) -> bool {
-    match placement::step_for(cases::size_of(words[0])) {
-        Stepping::Is(step) => words[1] == 0 && step == cases::size_of(words[2]),
-        Stepping::Declined(why) => words[1] == why.number() as u32 && words[2] == 0,
+    match placement::step_for(size_at(words, 0)) {
+        Stepping::Is(step) => word_at(words, 1) == 0 && step == size_at(words, 2),
+        Stepping::Declined(why) => word_at(words, 1) == why.number() as u32
+            && word_at(words, 2) == 0,
     }
 }
 
@@ -32,9 +36,9 @@ pub fn is_refused(answer: Answer) -> bool {
 
 // Whether a placement in this work buffer is the one that is expected, and leaves the buffer where it is refused.
 fn same_place(words: [u32; 24], count: usize, seed: u32, m: &[f32], work: &mut [u16]) -> bool {
-    let k = cases::size_of(words[0]);
-    let step = cases::size_of(words[1]);
-    let c = cases::float_of(words[2]);
+    let k = size_at(words, 0);
+    let step = size_at(words, 1);
+    let c = float_at(words, 2);
     rubbish::fill(work, seed);
     let found = placement::feasible(m, c, k, step, work);
     let answer = found.answer;
@@ -44,14 +48,14 @@ fn same_place(words: [u32; 24], count: usize, seed: u32, m: &[f32], work: &mut [
             return false;
         }
     }
-    same_answer(answer, words[4], 5 < count) && hues::same(given, words, 5, count)
+    same_answer(answer, word_at(words, 4), 5 < count) && hues::same(given, words, 5, count)
 }
 
 // Whether it is in a work buffer of the length that the words say, on a ring of this length.
-pub fn same_in(words: [u32; 24], count: usize, seed: u32, ring: &[f32], length: usize) -> bool {
+pub fn same_in(words: [u32; 24], count: usize, seed: u32, ring: [f32; 800], length: usize) -> bool {
     let mut work = [0u16; 2400];
-    let room = cases::size_of(words[3]);
-    if length <= ring.len() {
+    let room = size_at(words, 3);
+    if length <= 800 {
         if room <= 2400 {
             let part = &mut work[0..room];
             return same_place(words, count, seed, &ring[0..length], part);
@@ -63,11 +67,11 @@ pub fn same_in(words: [u32; 24], count: usize, seed: u32, ring: &[f32], length: 
 // Whether a placement has a work buffer that there is room for, and as many hues as it may: none, or k where it is not
 // refused.
 pub fn is_whole(words: [u32; 24], count: usize) -> bool {
-    if 2400 < words[3] {
+    if 2400 < word_at(words, 3) {
         return false;
     }
     if 5 < count {
-        return words[4] == 0 && count - 5 == cases::size_of(words[0]);
+        return word_at(words, 4) == 0 && count - 5 == size_at(words, 0);
     }
     count == 5
 }

@@ -3,8 +3,11 @@
 // none, 255 for a placement, the number of a refusal, or 254 for one that left its work buffer changed. Sixteen hues
 // follow, two bytes each, the low one first.
 use crate::places;
-use cases::digest;
-use cases::rubbish;
+use case_words::digest;
+use case_words::entries::Row;
+use case_words::float_at;
+use case_words::rubbish;
+use case_words::word_at;
 use placement::Answer;
 
 // The digest of the answers so far, and what the rubbish of the next work buffer is made from.
@@ -41,22 +44,6 @@ fn with_place(sum: Sum, m: &[f32], c: f32, k: usize, step: usize, work: &mut [u1
     }
 }
 
-// With a placement at the chroma that a word says.
-fn with_word(
-    sum: Sum,
-    m: &[f32],
-    words: [u32; 24],
-    i: usize,
-    k: usize,
-    step: usize,
-    work: &mut [u16],
-) -> Sum {
-    if i < 24 {
-        return with_place(sum, m, cases::float_of(words[i]), k, step, work);
-    }
-    sum
-}
-
 // With a placement at each chroma.
 fn with_chromas(
     sum: Sum,
@@ -70,7 +57,7 @@ fn with_chromas(
     let mut to = sum;
     let mut i = 2;
     while i < count {
-        to = with_word(to, m, words, i, k, step, work);
+        to = with_place(to, m, float_at(words, i), k, step, work);
         i += 1;
     }
     to
@@ -106,24 +93,23 @@ fn with_counts(sum: Sum, m: &[f32], words: [u32; 24], count: usize, work: &mut [
 }
 
 // The same, on a ring of this length and in a work buffer of three times that.
-fn swept(sum: Sum, ring: &[f32], length: usize, words: [u32; 24], count: usize) -> Sum {
+fn swept(sum: Sum, ring: [f32; 800], length: usize, words: [u32; 24], count: usize) -> Sum {
     let mut work = [0u16; 2400];
     if length <= 800 {
         let room = 3 * length;
-        if length <= ring.len() {
-            let part = &mut work[0..room];
-            return with_counts(sum, &ring[0..length], words, count, part);
-        }
+        let part = &mut work[0..room];
+        return with_counts(sum, &ring[0..length], words, count, part);
     }
     sum
 }
 
-// Whether a sweep on a ring of this length gives the digest that is expected.
-pub fn agrees(words: [u32; 24], count: usize, seed: u32, ring: &[f32], length: usize) -> bool {
+// Whether a sweep gives the digest that is expected.
+pub fn agrees(words: [u32; 24], count: usize, seed: u32, ring: Row) -> bool {
+    let entries = ring.entries;
     let none = Sum {
         digest: digest::START,
         seed,
     };
-    let sum = swept(none, ring, length, words, count);
-    sum.digest == digest::said(words[0], words[1])
+    let sum = swept(none, entries, ring.length, words, count);
+    sum.digest == digest::said(word_at(words, 0), word_at(words, 1))
 }

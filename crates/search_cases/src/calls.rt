@@ -1,7 +1,9 @@
 // Calls, each held to the words after its inputs: the number of its refusal, and the job after it.
 use crate::jobs;
-use cases::digest;
-use cases::rubbish;
+use case_words::digest;
+use case_words::rubbish;
+use case_words::size_at;
+use case_words::word_at;
 use search::Answer;
 use search::Job;
 use search::Outcome;
@@ -30,11 +32,25 @@ fn held(outcome: Outcome, kept: bool, number: u32, expected: Job) -> Taken {
 
 // Takes a start.
 pub fn start(words: [u32; 24], count: usize, table: &[f32], lent: Job) -> Taken {
-    let settings = jobs::settings_said(words[0], words[1]);
-    let levels = cases::size_of(words[3]);
-    let expected = jobs::after(lent, settings, levels, 0, words, 4, count);
+    let settings = jobs::settings_said(words, 0);
+    let expected = jobs::after(lent, settings, size_at(words, 3), 0, words, 4, count);
     let outcome = search::start(settings, table, lent);
-    held(outcome, true, words[2], expected)
+    held(outcome, true, word_at(words, 2), expected)
+}
+
+// What came of a call with a work buffer.
+struct Called {
+    outcome: Outcome,
+    // whether the work buffer is as it was
+    kept: bool,
+}
+
+// A step in this work buffer.
+fn stepped(seed: u32, table: &[f32], work: &mut [u16], lent: Job) -> Called {
+    rubbish::fill(work, seed);
+    let outcome = search::step(table, work, lent);
+    let kept = rubbish::stands(work, seed);
+    Called { outcome, kept }
 }
 
 // Takes a step in this work buffer.
@@ -47,32 +63,61 @@ pub fn step(
     lent: Job,
 ) -> Taken {
     let settings = lent.settings;
-    let position = cases::size_of(words[2]);
-    let expected = jobs::after(lent, settings, lent.levels, position, words, 3, count);
-    rubbish::fill(work, seed);
-    let outcome = search::step(table, work, lent);
-    let kept = rubbish::stands(work, seed);
-    held(outcome, kept, words[1], expected)
+    let expected = jobs::after(
+        lent,
+        settings,
+        lent.levels,
+        size_at(words, 2),
+        words,
+        3,
+        count,
+    );
+    let called = stepped(seed, table, work, lent);
+    let outcome = called.outcome;
+    held(outcome, called.kept, word_at(words, 1), expected)
+}
+
+// What came of steps so far: whether every refused one left its work buffer, the digest of them all, and the last job.
+struct Sum {
+    kept: bool,
+    digest: u64,
+    job: Job,
+}
+
+// With one more step.
+fn with_step(sum: Sum, called: Called) -> Sum {
+    let outcome = called.outcome;
+    let answer = outcome.answer;
+    let job = outcome.job;
+    let number = number_of(answer);
+    Sum {
+        kept: sum.kept && (number == 0 || called.kept),
+        digest: jobs::digested(digest::with_byte(sum.digest, number), job),
+        job,
+    }
+}
+
+// So many steps in this work buffer.
+fn stepped_on(count: usize, seed: u32, table: &[f32], work: &mut [u16], lent: Job) -> Sum {
+    let mut sum = Sum {
+        kept: true,
+        digest: digest::START,
+        job: lent,
+    };
+    let mut i = 0;
+    while i < count {
+        let job = sum.job;
+        sum = with_step(sum, stepped(seed, table, work, job));
+        i += 1;
+    }
+    sum
 }
 
 // Takes so many steps in this work buffer.
 pub fn steps(words: [u32; 24], seed: u32, table: &[f32], work: &mut [u16], lent: Job) -> Taken {
-    let count = cases::size_of(words[0]);
-    let mut kept = true;
-    let mut sum = digest::START;
-    let mut job = lent;
-    let mut i = 0;
-    while i < count {
-        rubbish::fill(work, seed);
-        let outcome = search::step(table, work, job);
-        let answer = outcome.answer;
-        let number = number_of(answer);
-        kept = kept && (number == 0 || rubbish::stands(work, seed));
-        job = outcome.job;
-        sum = jobs::digested(digest::with_byte(sum, number), job);
-        i += 1;
-    }
-    let same = kept && sum == digest::said(words[2], words[3]);
+    let sum = stepped_on(size_at(words, 0), seed, table, work, lent);
+    let job = sum.job;
+    let same = sum.kept && sum.digest == digest::said(word_at(words, 2), word_at(words, 3));
     Taken { same, job }
 }
 
@@ -85,11 +130,11 @@ pub fn search(
     work: &mut [u16],
     lent: Job,
 ) -> Taken {
-    let settings = jobs::settings_said(words[0], words[1]);
-    let position = cases::size_of(words[4]);
-    let expected = jobs::after(lent, settings, table.len() / 720, position, words, 5, count);
+    let settings = jobs::settings_said(words, 0);
+    let levels = table.len() / 720;
+    let expected = jobs::after(lent, settings, levels, size_at(words, 4), words, 5, count);
     rubbish::fill(work, seed);
     let outcome = search::search(settings, table, work, lent);
     let kept = rubbish::stands(work, seed);
-    held(outcome, kept, words[3], expected)
+    held(outcome, kept, word_at(words, 3), expected)
 }

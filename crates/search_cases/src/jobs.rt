@@ -1,7 +1,10 @@
 // Job records: by the words of a line, held to one another, and in a digest.
 use crate::operations;
-use cases::digest;
-use cases::hues;
+use case_words::digest;
+use case_words::float_at;
+use case_words::hues;
+use case_words::size_at;
+use case_words::word_at;
 use search::Best;
 use search::Job;
 use search::Settings;
@@ -16,7 +19,7 @@ fn same_best(one: Best, other: Best) -> bool {
         Best::Found(chroma, dark, light) => match other {
             Best::None => false,
             Best::Found(c, d, l) => {
-                cases::same_float(c, cases::pattern_of(chroma)) && d == dark && l == light
+                patterns::same_float(c, patterns::pattern_of(chroma)) && d == dark && l == light
             }
         },
     }
@@ -43,7 +46,7 @@ pub fn same(one: Job, other: Job) -> bool {
     let hues = one.hues;
     let other_hues = other.hues;
     settings.k == expected.k
-        && cases::same_float(settings.gap, cases::pattern_of(expected.gap))
+        && patterns::same_float(settings.gap, patterns::pattern_of(expected.gap))
         && one.levels == other.levels
         && one.position == other.position
         && same_best(best, other_best)
@@ -63,7 +66,10 @@ fn with_found(sum: u64, best: Best) -> u64 {
     match best {
         Best::None => digest::with_byte(sum, 0),
         Best::Found(chroma, dark, light) => {
-            let first = digest::with_pattern(digest::with_byte(sum, 1), cases::pattern_of(chroma));
+            let first = digest::with_pattern(
+                digest::with_byte(sum, 1),
+                patterns::pattern_of(chroma),
+            );
             with_number(with_number(first, dark), light)
         }
     }
@@ -76,7 +82,7 @@ pub fn digested(sum: u64, job: Job) -> u64 {
     let hues = job.hues;
     let first = digest::with_pattern(
         with_number(sum, settings.k),
-        cases::pattern_of(settings.gap),
+        patterns::pattern_of(settings.gap),
     );
     let second = with_number(with_number(first, job.levels), job.position);
     digest::with_hues(with_found(second, best), hues)
@@ -86,20 +92,21 @@ pub fn digested(sum: u64, job: Job) -> u64 {
 fn best_said(words: [u32; 24], from: usize, count: usize) -> Best {
     if from < 22 {
         if from < count {
-            let chroma = cases::float_of(words[from]);
-            let dark = cases::size_of(words[from + 1]);
-            let light = cases::size_of(words[from + 2]);
-            return Best::Found(chroma, dark, light);
+            return Best::Found(
+                float_at(words, from),
+                size_at(words, from + 1),
+                size_at(words, from + 2),
+            );
         }
     }
     Best::None
 }
 
-// The settings by two words.
-pub fn settings_said(k: u32, gap: u32) -> Settings {
+// The settings by two words from one of them on.
+pub fn settings_said(words: [u32; 24], from: usize) -> Settings {
     Settings {
-        k: cases::size_of(k),
-        gap: cases::float_of(gap),
+        k: size_at(words, from),
+        gap: float_at(words, std::num::wrapping_add_usize(from, 1)),
     }
 }
 
@@ -130,12 +137,12 @@ pub fn after(
 
 // A job by the words of its line, with none so far.
 fn said(words: [u32; 24], count: usize) -> Job {
-    let settings = settings_said(words[0], words[1]);
+    let settings = settings_said(words, 0);
     let hues = hues::all_said(words, 4, count);
     Job {
         settings,
-        levels: cases::size_of(words[2]),
-        position: cases::size_of(words[3]),
+        levels: size_at(words, 2),
+        position: size_at(words, 3),
         best: Best::None,
         hues,
     }

@@ -1,5 +1,10 @@
 // The lines that set the table. It is kept in one array, of which the first entries are lent.
-use cases::entries;
+use crate::operations;
+use case_directions::Directions;
+use case_words::entries;
+use case_words::float_at;
+use case_words::size_at;
+use cases::Line;
 use gamut::Filling;
 
 // How many entries a table can have, those refused among them.
@@ -57,8 +62,8 @@ fn fill_levels(table: &mut [f32], first: usize, count: usize, cos: &[f32], sin: 
 }
 
 // Sets entries, each by its own word, and says whether there are so many.
-pub fn set_more(words: [u32; 24], count: usize, table: &mut [f32]) -> bool {
-    let at = cases::size_of(words[0]);
+fn set_more(words: [u32; 24], count: usize, table: &mut [f32]) -> bool {
+    let at = size_at(words, 0);
     if entries::words_fit(at, 1, count, STORED) {
         entries::put(table, at, words, 1, count);
         return true;
@@ -67,21 +72,21 @@ pub fn set_more(words: [u32; 24], count: usize, table: &mut [f32]) -> bool {
 }
 
 // Sets entries, all by one word, and says whether there are so many.
-pub fn set_same(words: [u32; 24], table: &mut [f32]) -> bool {
-    let at = cases::size_of(words[0]);
-    let count = cases::size_of(words[1]);
+fn set_same(words: [u32; 24], table: &mut [f32]) -> bool {
+    let at = size_at(words, 0);
+    let count = size_at(words, 1);
     if entries::fit(at, count, STORED) {
-        entries::put_same(table, at, count, cases::float_of(words[2]));
+        entries::put_same(table, at, count, float_at(words, 2));
         return true;
     }
     false
 }
 
 // Sets entries by others, and says whether there are so many.
-pub fn set_copy(words: [u32; 24], table: &mut [f32]) -> bool {
-    let at = cases::size_of(words[0]);
-    let from = cases::size_of(words[1]);
-    let count = cases::size_of(words[2]);
+fn set_copy(words: [u32; 24], table: &mut [f32]) -> bool {
+    let at = size_at(words, 0);
+    let from = size_at(words, 1);
+    let count = size_at(words, 2);
     if entries::fit(at, count, STORED) && entries::fit(from, count, STORED) {
         put_copy(table, at, from, count);
         return true;
@@ -90,8 +95,22 @@ pub fn set_copy(words: [u32; 24], table: &mut [f32]) -> bool {
 }
 
 // Sets rows by the directions, and says whether they are filled.
-pub fn set_panel(words: [u32; 24], table: &mut [f32], cos: &[f32], sin: &[f32]) -> bool {
-    let first = cases::size_of(words[0]);
-    let count = cases::size_of(words[1]);
-    fill_levels(table, first, count, cos, sin)
+fn set_panel(words: [u32; 24], table: &mut [f32], all: Directions) -> bool {
+    let first = size_at(words, 0);
+    let count = size_at(words, 1);
+    let cos = all.cos;
+    let sin = all.sin;
+    fill_levels(table, first, count, &cos, &sin)
+}
+
+// Sets what a line says of the entries, and says whether it can be set.
+pub fn set(line: Line, table: &mut [f32], all: Directions) -> bool {
+    let operation = line.operation;
+    let words = line.words;
+    match operation {
+        operations::MORE => set_more(words, line.count, table),
+        operations::SAME => set_same(words, table),
+        operations::COPY => set_copy(words, table),
+        _ => set_panel(words, table, all),
+    }
 }

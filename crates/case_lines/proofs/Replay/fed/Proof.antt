@@ -1,7 +1,6 @@
 -- `Replay::fed` is safe and ends: it goes over the bytes. Assumes nothing.
 use Prim.Native.Nat.{_-_}
 use native.Mathlib.Omega.{arith}
-use lib.ListN.{length}
 use borrow.Author.Needs.{needs}
 use Rattle.case_lines.proofs.Replay.fed.Statement.{statement}
 use Rattle.case_lines.proofs.Replay.fed.Tie as tie
@@ -10,13 +9,13 @@ abbrev Inv-loop : tie.InvT-loop
 Inv-loop self bytes end line₀ at₀ line at = Unit {0}
 
 abbrev μ-loop : tie.MeasureT-loop
-μ-loop self bytes end line₀ at₀ line at = length bytes - at
+μ-loop self bytes end line₀ at₀ line at = 4096 - at
 
 loop-holds : tie.Need-loop-holds Inv-loop μ-loop
 loop-holds c = tt
 
-shared-slice-read-fed : tie.Need-shared-slice-read-fed Inv-loop μ-loop
-shared-slice-read-fed c = omega arith
+array-read-fed : tie.Need-array-read-fed Inv-loop μ-loop
+array-read-fed c = omega arith
 
 fed-requires : tie.Need-fed-requires Inv-loop μ-loop
 fed-requires c κs = search needs
@@ -44,4 +43,4 @@ returns-2 c = tt
 
 pub fed-spec : {M : Type 1} → statement M
 fed-spec =
-    tie.close (tie.spec Inv-loop μ-loop loop-holds shared-slice-read-fed fed-requires add-at sorted-requires returns loop-less loop-again sorted-requires-2 returns-2)
+    tie.close (tie.spec Inv-loop μ-loop loop-holds array-read-fed fed-requires add-at sorted-requires returns loop-less loop-again sorted-requires-2 returns-2)

@@ -4,7 +4,7 @@ use Rattle.case_lines.proofs.Replay.unless.Statement.{statement}
 use Rattle.case_lines.proofs.Replay.unless.Tie as tie
 
 returns : tie.Need-returns
-returns c = search needs
+returns c = rw (c .if1 .taken)
 
 differs-requires : tie.Need-differs-requires
 differs-requires c κs = search needs

@@ -17,8 +17,8 @@ loop-holds c = omega arith
 mul-color-of : tie.Need-mul-color-of Inv-loop μ-loop
 mul-color-of c = search needs
 
-element-copy-out-color-of : tie.Need-element-copy-out-color-of Inv-loop μ-loop
-element-copy-out-color-of c = omega arith
+array-read-color-of : tie.Need-array-read-color-of Inv-loop μ-loop
+array-read-color-of c = omega arith
 
 color-of-requires : tie.Need-color-of-requires Inv-loop μ-loop
 color-of-requires c κs = search needs
@@ -44,4 +44,4 @@ returns c = tt
 pub of-spec : {M : Type 1} → statement M
 of-spec =
     tie.close
-    (tie.spec Inv-loop μ-loop loop-holds mul-color-of element-copy-out-color-of color-of-requires mul-all array-set-from-all add-i loop-less loop-again returns)
+    (tie.spec Inv-loop μ-loop loop-holds mul-color-of array-read-color-of color-of-requires mul-all array-set-from-all add-i loop-less loop-again returns)

@@ -6,16 +6,22 @@ use Rattle.palette_cases.proofs.colors.put.Statement.{statement}
 use Rattle.palette_cases.proofs.colors.put.Tie as tie
 
 abbrev Inv-loop : tie.InvT-loop
-Inv-loop colors₀ at words from count to₀ i₀ colors to i = Unit {0}
+Inv-loop at words from count all₀ to₀ i₀ all to i = Unit {0}
 
 abbrev μ-loop : tie.MeasureT-loop
-μ-loop colors₀ at words from count to₀ i₀ colors to i = count - i
+μ-loop at words from count all₀ to₀ i₀ all to i = count - i
 
 loop-holds : tie.Need-loop-holds Inv-loop μ-loop
 loop-holds c = tt
 
-put-word-requires : tie.Need-put-word-requires Inv-loop μ-loop
-put-word-requires c κs = search needs
+word-at-requires : tie.Need-word-at-requires Inv-loop μ-loop
+word-at-requires c κs = search needs
+
+mul-all : tie.Need-mul-all Inv-loop μ-loop
+mul-all c = search needs
+
+array-write-all : tie.Need-array-write-all Inv-loop μ-loop
+array-write-all c = search needs
 
 wrapping-add-usize-requires : tie.Need-wrapping-add-usize-requires Inv-loop μ-loop
 wrapping-add-usize-requires c κs = search needs
@@ -35,4 +41,4 @@ returns c = tt
 pub put-spec : {M : Type 1} → statement M
 put-spec =
     tie.close
-    (tie.spec Inv-loop μ-loop loop-holds put-word-requires wrapping-add-usize-requires add-i loop-less loop-again returns)
+    (tie.spec Inv-loop μ-loop loop-holds word-at-requires mul-all array-write-all wrapping-add-usize-requires add-i loop-less loop-again returns)

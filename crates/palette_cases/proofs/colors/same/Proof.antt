@@ -23,8 +23,8 @@ array-copy-out-is c = omega arith
 mul-is-2 : tie.Need-mul-is-2 Inv-loop μ-loop
 mul-is-2 c = search needs
 
-element-copy-out-is : tie.Need-element-copy-out-is Inv-loop μ-loop
-element-copy-out-is c = omega arith
+array-read-is : tie.Need-array-read-is Inv-loop μ-loop
+array-read-is c = omega arith
 
 is-requires : tie.Need-is-requires Inv-loop μ-loop
 is-requires c κs = search needs
@@ -47,4 +47,4 @@ returns-2 c = tt
 pub same-spec : {M : Type 1} → statement M
 same-spec =
     tie.close
-    (tie.spec Inv-loop μ-loop loop-holds mul-is array-copy-out-is mul-is-2 element-copy-out-is is-requires returns add-i loop-less loop-again returns-2)
+    (tie.spec Inv-loop μ-loop loop-holds mul-is array-copy-out-is mul-is-2 array-read-is is-requires returns add-i loop-less loop-again returns-2)

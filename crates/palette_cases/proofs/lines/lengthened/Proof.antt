@@ -17,8 +17,8 @@ loop-holds c = omega arith
 mul-long : tie.Need-mul-long Inv-loop μ-loop
 mul-long c = search needs
 
-element-copy-out-long : tie.Need-element-copy-out-long Inv-loop μ-loop
-element-copy-out-long c = omega arith
+array-read-long : tie.Need-array-read-long Inv-loop μ-loop
+array-read-long c = omega arith
 
 mul-long-2 : tie.Need-mul-long-2 Inv-loop μ-loop
 mul-long-2 c = search needs
@@ -41,4 +41,4 @@ returns c = tt
 pub lengthened-spec : {M : Type 1} → statement M
 lengthened-spec =
     tie.close
-    (tie.spec Inv-loop μ-loop loop-holds mul-long element-copy-out-long mul-long-2 array-write-long add-i loop-less loop-again returns)
+    (tie.spec Inv-loop μ-loop loop-holds mul-long array-read-long mul-long-2 array-write-long add-i loop-less loop-again returns)
