@@ -1,10 +1,8 @@
 // Functions for callers in other languages, each exported under its own name. A slice is handed over as the address of its
 // first element, then its length; what is written must overlap nothing else that is handed over.
 use color::Srgb8;
-use gamut::Filling;
 use palette::BackOff;
 use palette::Design;
-use placement::Answer;
 use search::Best;
 use search::Job;
 use search::Settings;
@@ -16,13 +14,11 @@ ghost use Rattle.limits.specs.Answers.{refused};
 ghost use Rattle.placement_rules.specs.Placing.{placementSays};
 ghost use Rattle.pair_rules.specs.Pair.{pairSays};
 ghost use Rattle.search_rules.specs.Job.{searchSays};
-ghost use Rattle.gamut.specs.Gamut.{fillSaid, fillSays, rowAfter};
+ghost use Rattle.gamut.specs.Gamut.{fillSays, rowAfter};
 ghost use Rattle.color.specs.Parts.{toHex};
 ghost use Rattle.palette.specs.BackOff.{backOffSays};
-ghost use Rattle.exports.specs.Numbers.{numberOf, placeNumber, huesAfter, bestNumber, bestHues, bestChroma, settingsOf, handed, searchHands, designOf, backed, backOffHands};
-
-// What is given where there is no placement.
-const NO_PLACEMENT: u32 = 255;
+ghost use Rattle.handing.specs.Numbers.{numberOf, placeNumber, huesAfter, bestNumber, bestHues, bestChroma};
+ghost use Rattle.exports.specs.Numbers.{settingsOf, handed, searchHands, designOf, backed, backOffHands};
 
 // What is given where no chroma is found.
 const NO_CHROMA: u32 = 255;
@@ -30,23 +26,13 @@ const NO_CHROMA: u32 = 255;
 // What is given where no chroma passes, but for the last finding.
 const NONE_PASSES: u32 = 240;
 
-// An answer as one number.
-fn number_of(filling: Filling) -> u32
-    ensures { λ r. ⌜ r ≡ numberOf (fillSaid filling) ⌝ }
-{
-    match filling {
-        Filling::Filled => 0,
-        Filling::Refused(why) => why.number() as u32,
-    }
-}
-
 // Fills the row of one level, by 720 lent directions, and gives 0. Where it is refused it gives the refusal's number, and
 // the row is as before.
 #[no_mangle]
 pub extern "C" fn tengcuvo_fill_row(level: usize, cos: &[f32], sin: &[f32], row: &mut [f32]) -> u32
     ensures { λ r. ⌜ (r ≡ numberOf (fillSays level (now (cos .entry)) (now (sin .entry)) (now (row .entry)))) × (now (row .exit) ≡ rowAfter level (now (cos .entry)) (now (sin .entry)) (now (row .entry))) ⌝ }
 {
-    number_of(gamut::fill_row(level, cos, sin, row))
+    handing::fill_row(level, cos, sin, row)
 }
 
 // k hues at least `step` apart all round a ring of entries m, each with an entry of at least c: gives 0 with sixteen hues, 255
@@ -63,20 +49,7 @@ pub extern "C" fn tengcuvo_place(
     ensures { λ r. ⌜ (r ≡ placeNumber (placementSays k step c (now (m .entry)) (length (now (work .entry))))) × (now (hues .exit) ≡ huesAfter (placementSays k step c (now (m .entry)) (length (now (work .entry)))) (now (hues .entry))) ⌝ }
     ensures { λ r. ⌜ ((w : ℕ) → placementSays k step c (now (m .entry)) (length (now (work .entry))) ≡ refused w → now (work .exit) ≡ now (work .entry)) ⌝ }
 {
-    let found = placement::feasible(m, c, k, step, work);
-    let answer = found.answer;
-    let given = found.hues;
-    match answer {
-        Answer::Placed => {
-            *hues = given;
-            0
-        }
-        Answer::Nowhere => {
-            *hues = given;
-            NO_PLACEMENT
-        }
-        Answer::Refused(why) => why.number() as u32,
-    }
+    handing::place(m, c, k, step, work, hues)
 }
 
 // The best chroma of two rows from a floor up, for k hues at least `step` apart all round: gives 0 with the chroma and sixteen
@@ -96,21 +69,7 @@ pub extern "C" fn tengcuvo_best(
     ensures { λ r. ⌜ (r ≡ bestNumber (pairSays k step floor (now (a .entry)) (now (b .entry)) (length (now (work .entry))))) × ((now (hues .exit) ≡ bestHues (pairSays k step floor (now (a .entry)) (now (b .entry)) (length (now (work .entry)))) (now (hues .entry))) × (now (chroma .exit) ≡ bestChroma (pairSays k step floor (now (a .entry)) (now (b .entry)) (length (now (work .entry)))) (now (chroma .entry)))) ⌝ }
     ensures { λ r. ⌜ ((w : ℕ) → pairSays k step floor (now (a .entry)) (now (b .entry)) (length (now (work .entry))) ≡ refused w → now (work .exit) ≡ now (work .entry)) ⌝ }
 {
-    let chosen = pair::best_for_levels(a, b, k, step, floor, work);
-    let answer = chosen.answer;
-    let given = chosen.hues;
-    match answer {
-        pair::Answer::Found(c) => {
-            *hues = given;
-            *chroma = [c];
-            0
-        }
-        pair::Answer::Nothing => {
-            *hues = given;
-            NO_CHROMA
-        }
-        pair::Answer::Refused(why) => why.number() as u32,
-    }
+    handing::best(a, b, k, step, floor, work, hues, chroma)
 }
 
 // The job that a whole search is lent, of which nothing is handed out.

@@ -1,6 +1,6 @@
 // What standard input says, in the form of the case lists: `ask k gap` once, and `dir j cos sin` for each direction.
 use case_directions::Directions;
-use case_lines::Replay;
+use case_directions::run::Run;
 use case_words::float_at;
 use case_words::size_at;
 use search::Settings;
@@ -13,8 +13,7 @@ const DIR: u64 = 0x64_6972;
 
 // What was read.
 pub struct Input {
-    pub replay: Replay,
-    pub directions: Directions,
+    pub run: Run,
     // whether it was said what is asked, and what
     pub asked: bool,
     pub settings: Settings,
@@ -23,51 +22,27 @@ pub struct Input {
 impl Input {
     // Nothing was read. A direction that is not given is a NaN, which is refused.
     fn new() -> Input {
+        let mut run = Run::new();
+        let missing = Directions::all(0.0 / 0.0);
+        run.directions = missing;
         Input {
-            replay: Replay::new(),
-            directions: Directions::all(0.0 / 0.0),
+            run,
             asked: false,
             settings: Settings { k: 0, gap: 0.0 },
         }
     }
 
-    // One turn: reads on, and takes the line if one has just ended that says something.
-    fn turned(mut self) -> Input {
-        let replay = self.replay;
-        let next = replay.turned();
-        self.replay = next;
-        if next.case {
-            return self.told();
-        }
+    // With this come of a line.
+    fn with_run(mut self, run: Run) -> Input {
+        self.run = run;
         self
-    }
-
-    // Whether there may be more to read.
-    fn more(self) -> bool {
-        let replay = self.replay;
-        replay.more
-    }
-
-    // With a line that is malformed unless it is as it should be.
-    fn formed(mut self, fine: bool) -> Input {
-        let replay = self.replay;
-        let next = replay.formed(fine);
-        self.replay = next;
-        self
-    }
-
-    // With a direction set.
-    fn with_dir(mut self, words: [u32; 24]) -> Input {
-        let directions = self.directions;
-        let next = directions.set(words);
-        self.directions = next;
-        self.formed(case_directions::is_one(words))
     }
 
     // With what is asked, which is said once.
     fn with_ask(mut self, words: [u32; 24]) -> Input {
+        let run = self.run;
         if self.asked {
-            return self.formed(false);
+            return self.with_run(run.formed(false));
         }
         let settings = Settings {
             k: size_at(words, 0),
@@ -80,21 +55,39 @@ impl Input {
 
     // With what its line says.
     fn told(self) -> Input {
-        let replay = self.replay;
-        let line = replay.line;
+        let run = self.run;
+        let line = run.line();
         let words = line.words;
         if line.operation == DIR && line.count == 3 {
-            return self.with_dir(words);
+            return self.with_run(run.with_dir());
         }
         if line.operation == ASK && line.count == 2 {
             return self.with_ask(words);
         }
-        self.formed(false)
+        self.with_run(run.formed(false))
+    }
+
+    // One turn: reads on, and takes the line if one has just ended that says something.
+    fn turned(self) -> Input {
+        let run = self.run;
+        let next = run.turned();
+        let read = self.with_run(next);
+        if next.has_case() {
+            return read.told();
+        }
+        read
+    }
+
+    // Whether there is no more to read.
+    fn is_done(self) -> bool {
+        let run = self.run;
+        run.done()
     }
 
     // Whether it was read to its end, says what is asked, and has no line that it may not have.
     pub fn whole(self) -> bool {
-        let replay = self.replay;
+        let run = self.run;
+        let replay = run.replay;
         let finished = replay.finished(!self.asked, b", and what is asked is missing");
         finished.differ == 0
     }
@@ -104,7 +97,7 @@ impl Input {
 pub fn read() -> Input {
     let mut input = Input::new();
     let mut turns = case_lines::TURNS;
-    while turns > 0 && input.more() {
+    while turns > 0 && !input.is_done() {
         input = input.turned();
         turns -= 1;
     }

@@ -78,7 +78,8 @@ fn main() {
     let read = input::read();
     if read.whole() {
         let settings = read.settings;
-        let all = read.directions;
+        let run_read = read.run;
+        let all = run_read.directions;
         let cos = all.cos;
         let sin = all.sin;
         show::asked(settings);

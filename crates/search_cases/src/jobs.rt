@@ -4,7 +4,7 @@ use case_words::digest;
 use case_words::float_at;
 use case_words::hues;
 use case_words::size_at;
-use case_words::word_at;
+use cases::Line;
 use search::Best;
 use search::Job;
 use search::Settings;
@@ -163,9 +163,11 @@ fn with_best(job: Job, words: [u32; 24]) -> Job {
 }
 
 // The job after a line that sets it.
-pub fn set(operation: u64, words: [u32; 24], count: usize, job: Job) -> Job {
+pub fn set(line: Line, job: Job) -> Job {
+    let operation = line.operation;
+    let words = line.words;
     match operation {
-        operations::JOB => said(words, count),
+        operations::JOB => said(words, line.count),
         _ => with_best(job, words),
     }
 }

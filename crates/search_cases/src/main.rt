@@ -8,8 +8,7 @@ mod operations;
 mod table;
 
 use calls::Taken;
-use case_directions::Directions;
-use case_lines::Replay;
+use case_directions::run::Run;
 use case_words::rubbish;
 use case_words::size_at;
 use cases::Line;
@@ -17,8 +16,7 @@ use search::Job;
 
 // What came of the lines so far, and what they set but for the table's entries.
 struct State {
-    replay: Replay,
-    directions: Directions,
+    run: Run,
     // how many entries the table has
     length: usize,
     // the job that the next call is lent
@@ -64,130 +62,105 @@ fn called(line: Line, entries: &[f32], length: usize, job: Job) -> Taken {
 }
 
 impl State {
-    // No line has come yet.
-    fn new() -> State {
-        State {
-            replay: Replay::new(),
-            directions: Directions::all(0.0),
-            length: 0,
-            job: jobs::blank(),
-        }
-    }
-
-    // With one more line that differs, unless a list may have it.
-    fn formed(mut self, fine: bool) -> State {
-        let replay = self.replay;
-        let next = replay.formed(fine);
-        self.replay = next;
+    // With this come of a line.
+    fn with_run(mut self, run: Run) -> State {
+        self.run = run;
         self
-    }
-
-    // With a direction set.
-    fn with_dir(mut self, words: [u32; 24]) -> State {
-        let directions = self.directions;
-        let next = directions.set(words);
-        self.directions = next;
-        self.formed(case_directions::is_one(words))
     }
 
     // With the table's length set, if a table can have it.
     fn with_length(mut self, length: usize) -> State {
+        let run = self.run;
         if length <= table::STORED {
             self.length = length;
             return self;
         }
-        self.formed(false)
+        self.with_run(run.formed(false))
     }
 
-    // With what came of a call.
-    fn with_call(mut self, taken: Taken) -> State {
-        let replay = self.replay;
-        let next = replay.agreed(taken.same);
-        let job = taken.job;
-        self.replay = next;
+    // With this job.
+    fn with_job(mut self, job: Job) -> State {
         self.job = job;
         self
     }
 
-    // With the job as a line sets it.
-    fn with_job(mut self, line: Line) -> State {
-        let words = line.words;
-        let job = self.job;
-        let next = jobs::set(line.operation, words, line.count, job);
-        self.job = next;
-        self
-    }
-
-    // With one more line of the operation at a place.
-    fn counting(mut self, place: usize) -> State {
-        let replay = self.replay;
-        let next = replay.counting(place, operations::FIRST_CASE);
-        self.replay = next;
-        self
-    }
-
-    // With what a line sets.
-    fn set(self, line: Line, entries: &mut [f32; 122400]) -> State {
+    // With what its line sets.
+    fn set(self, entries: &mut [f32; 122400]) -> State {
+        let run = self.run;
+        let line = run.line();
         let operation = line.operation;
         let words = line.words;
-        let all = self.directions;
+        let job = self.job;
+        let all = run.directions;
         match operation {
-            operations::DIR => self.with_dir(words),
+            operations::DIR => self.with_run(run.with_dir()),
             operations::TABLE => self.with_length(size_at(words, 0)),
-            operations::JOB | operations::BEST => self.with_job(line),
-            _ => self.formed(table::set(line, entries, all)),
+            operations::JOB | operations::BEST => self.with_job(jobs::set(line, job)),
+            _ => self.with_run(run.formed(table::set(line, entries, all))),
         }
     }
 
-    // With the line read last taken. Its operation must be known and have a number of words that it may have.
-    fn taken(self, entries: &mut [f32; 122400]) -> State {
-        let replay = self.replay;
-        let line = replay.line;
+    // With its line's call taken.
+    fn called(self, entries: &[f32]) -> State {
+        let run = self.run;
         let job = self.job;
+        let taken = called(run.line(), entries, self.length, job);
+        let next = taken.job;
+        self.with_run(run.agreed(taken.same)).with_job(next)
+    }
+
+    // With its line taken. Its operation must be known and have a number of words that it may have.
+    fn taken(self, entries: &mut [f32; 122400]) -> State {
+        let run = self.run;
+        let line = run.line();
         let place = operations::place_of(line.operation, line.count);
-        let next = self.counting(place);
+        let next = self.with_run(run.counting(place, operations::FIRST_CASE));
         if place < operations::FIRST_CASE {
-            return next.set(line, entries);
+            return next.set(entries);
         }
         if place < operations::COUNT {
-            return next.with_call(called(line, entries, self.length, job));
+            return next.called(entries);
         }
-        next.formed(false)
+        self.with_run(run.formed(false))
     }
 
     // One turn: reads on, and takes the line if one has just ended.
-    fn turned(mut self, entries: &mut [f32; 122400]) -> State {
-        let replay = self.replay;
-        let next = replay.turned();
-        self.replay = next;
-        if next.case {
-            return self.taken(entries);
+    fn turned(self, entries: &mut [f32; 122400]) -> State {
+        let run = self.run;
+        let next = run.turned();
+        let read = self.with_run(next);
+        if next.has_case() {
+            return read.taken(entries);
         }
-        self
+        read
     }
 
     // Whether there is no more to read.
     fn is_done(self) -> bool {
-        let replay = self.replay;
-        !replay.more
+        let run = self.run;
+        run.done()
     }
 }
 
 // Reads the list to its end. A proved loop ends, so it counts turns down.
-fn take_all(entries: &mut [f32; 122400]) -> Replay {
-    let mut state = State::new();
+fn take_all(entries: &mut [f32; 122400]) -> Run {
+    let mut state = State {
+        run: Run::new(),
+        length: 0,
+        job: jobs::blank(),
+    };
     let mut turns = case_lines::TURNS;
     while turns > 0 && !state.is_done() {
         state = state.turned(entries);
         turns -= 1;
     }
-    state.replay
+    state.run
 }
 
 // Replays the list and says what came of it.
 fn main() {
     let mut entries = [0.0f32; 122400];
-    let replay = take_all(&mut entries);
+    let run = take_all(&mut entries);
     let names = operations::NAMES;
-    replay.finished(false, b"").report(&names);
+    run.finished(b"").report(&names);
 }

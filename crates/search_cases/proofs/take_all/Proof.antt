@@ -13,6 +13,9 @@ abbrev μ-loop : tie.MeasureT-loop
 new-requires : tie.Need-new-requires Inv-loop μ-loop
 new-requires c κs = search needs
 
+blank-requires : tie.Need-blank-requires Inv-loop μ-loop
+blank-requires c κs = search needs
+
 loop-holds : tie.Need-loop-holds Inv-loop μ-loop
 loop-holds c = tt
 
@@ -36,4 +39,4 @@ returns c = tt
 
 pub take-all-spec : {M : Type 1} → statement M
 take-all-spec =
-    tie.close (tie.spec Inv-loop μ-loop new-requires loop-holds is-done-requires turned-requires sub-turns loop-less loop-again returns)
+    tie.close (tie.spec Inv-loop μ-loop new-requires blank-requires loop-holds is-done-requires turned-requires sub-turns loop-less loop-again returns)

@@ -1,4 +1,4 @@
--- `exports::tengcuvo_best` meets its contract, by what `pair::best_for_levels` says of its answer, the hues and the work buffer. Assumes nothing.
+-- `handing::best` meets its contract, by what `pair::best_for_levels` says of its answer, the hues and the work buffer. Assumes nothing.
 use mathlib.Core.Path.{_≡_, sym, ap, _∙_}
 use mathlib.Core.List.{List, [], _∷_}
 use Prim.Native.Nat.{ℕ}
@@ -7,9 +7,9 @@ use borrow.Author.Needs.{needs}
 use Rattle.limits.specs.Answers.{Said, value, refused}
 use Rattle.pair_rules.specs.declared.Answer.{Answer}
 use Rattle.pair_rules.specs.Pair.{Best, none, found, huesBeside, answers}
-use Rattle.exports.specs.Numbers.{bestNumber, bestHues, bestChroma}
-use Rattle.exports.proofs.tengcuvo_best.Statement.{statement}
-use Rattle.exports.proofs.tengcuvo_best.Tie as tie
+use Rattle.handing.specs.Numbers.{bestNumber, bestHues, bestChroma}
+use Rattle.handing.proofs.best.Statement.{statement}
+use Rattle.handing.proofs.best.Tie as tie
 
 -- ---- what is said where an answer is of a kind
 said : {a b : Answer} {s : Said Best} (h : List ℕ) → a ≡ b → answers a h ≡ s → answers b h ≡ s
@@ -72,8 +72,8 @@ returns-3 c =
     let kept = refused-gives _ _ (said (call .result .hues) (c .before .before .answer2 .given .1) (chosen .0 .0)) in
     ((c .number .ensures ∙ kept .0, kept .1), chosen .1)
 
-pub tengcuvo-best-spec : {M : Type 1} → statement M
-tengcuvo-best-spec =
+pub best-spec : {M : Type 1} → statement M
+best-spec =
     tie.close
     (tie.spec
     best-for-levels-requires

@@ -1,4 +1,4 @@
--- `exports::tengcuvo_place` meets its contract, by what `placement::feasible` says of its answer, the hues and the work buffer. Assumes nothing.
+-- `handing::place` meets its contract, by what `placement::feasible` says of its answer, the hues and the work buffer. Assumes nothing.
 use mathlib.Core.Path.{_≡_, sym, ap, _∙_}
 use mathlib.Core.List.{List}
 use Prim.Native.Nat.{ℕ}
@@ -7,9 +7,9 @@ use Rattle.limits.specs.Answers.{Said, value, refused}
 use Rattle.placement_rules.specs.declared.Answer.{Answer}
 use Rattle.placement_rules.specs.Ring.{Places, nowhere, placed}
 use Rattle.placement_rules.specs.Placing.{huesBeside, answers}
-use Rattle.exports.specs.Numbers.{placeNumber, huesAfter}
-use Rattle.exports.proofs.tengcuvo_place.Statement.{statement}
-use Rattle.exports.proofs.tengcuvo_place.Tie as tie
+use Rattle.handing.specs.Numbers.{placeNumber, huesAfter}
+use Rattle.handing.proofs.place.Statement.{statement}
+use Rattle.handing.proofs.place.Tie as tie
 
 -- ---- what is said where an answer is of a kind
 said : {a b : Answer} {s : Said Places} (h : List ℕ) → a ≡ b → answers a h ≡ s → answers b h ≡ s
@@ -71,8 +71,8 @@ returns-3 c =
     let kept = refused-gives _ (said (call .result .hues) (c .before .before .answer .given .1) (found .0 .0)) in
     ((c .number .ensures ∙ kept .0, kept .1), found .1)
 
-pub tengcuvo-place-spec : {M : Type 1} → statement M
-tengcuvo-place-spec =
+pub place-spec : {M : Type 1} → statement M
+place-spec =
     tie.close
     (tie.spec
     feasible-requires

@@ -1,0 +1,97 @@
+// What a call on rows and rings hands to a caller in another language: one number, and what is written where it is lent.
+use gamut::Filling;
+use placement::Answer;
+ghost use mathlib.Core.Path.{_≡_};
+ghost use Prim.Native.Nat.{ℕ};
+ghost use lib.ListN.{length};
+ghost use Rattle.limits.specs.Answers.{refused};
+ghost use Rattle.placement_rules.specs.Placing.{placementSays};
+ghost use Rattle.pair_rules.specs.Pair.{pairSays};
+ghost use Rattle.gamut.specs.Gamut.{fillSaid, fillSays, rowAfter};
+ghost use Rattle.handing.specs.Numbers.{numberOf, placeNumber, huesAfter, bestNumber, bestHues, bestChroma};
+
+// What is given where there is no placement.
+const NO_PLACEMENT: u32 = 255;
+
+// What is given where no chroma is found.
+const NO_CHROMA: u32 = 255;
+
+// An answer as one number.
+fn number_of(filling: Filling) -> u32
+    ensures { λ r. ⌜ r ≡ numberOf (fillSaid filling) ⌝ }
+{
+    match filling {
+        Filling::Filled => 0,
+        Filling::Refused(why) => why.number() as u32,
+    }
+}
+
+// Fills the row of one level, by 720 lent directions, and gives 0. Where it is refused it gives the refusal's number, and
+// the row is as before.
+pub fn fill_row(level: usize, cos: &[f32], sin: &[f32], row: &mut [f32]) -> u32
+    ensures { λ r. ⌜ (r ≡ numberOf (fillSays level (now (cos .entry)) (now (sin .entry)) (now (row .entry)))) × (now (row .exit) ≡ rowAfter level (now (cos .entry)) (now (sin .entry)) (now (row .entry))) ⌝ }
+{
+    number_of(gamut::fill_row(level, cos, sin, row))
+}
+
+// k hues at least `step` apart all round a ring of entries m, each with an entry of at least c: gives 0 with sixteen hues, 255
+// with zeros where there is no placement, or the number of a refusal, with the hues and the work buffer as before.
+pub fn place(
+    m: &[f32],
+    c: f32,
+    k: usize,
+    step: usize,
+    work: &mut [u16],
+    hues: &mut [u16; 16],
+) -> u32
+    ensures { λ r. ⌜ (r ≡ placeNumber (placementSays k step c (now (m .entry)) (length (now (work .entry))))) × (now (hues .exit) ≡ huesAfter (placementSays k step c (now (m .entry)) (length (now (work .entry)))) (now (hues .entry))) ⌝ }
+    ensures { λ r. ⌜ ((w : ℕ) → placementSays k step c (now (m .entry)) (length (now (work .entry))) ≡ refused w → now (work .exit) ≡ now (work .entry)) ⌝ }
+{
+    let found = placement::feasible(m, c, k, step, work);
+    let answer = found.answer;
+    let given = found.hues;
+    match answer {
+        Answer::Placed => {
+            *hues = given;
+            0
+        }
+        Answer::Nowhere => {
+            *hues = given;
+            NO_PLACEMENT
+        }
+        Answer::Refused(why) => why.number() as u32,
+    }
+}
+
+// The best chroma of two rows from a floor up, for k hues at least `step` apart all round: gives 0 with the chroma and sixteen
+// hues, 255 with zeros for hues and the chroma as before where there is none, or the number of a refusal, with the hues, the
+// chroma and the work buffer as before.
+pub fn best(
+    a: &[f32],
+    b: &[f32],
+    k: usize,
+    step: usize,
+    floor: f32,
+    work: &mut [u16],
+    hues: &mut [u16; 16],
+    chroma: &mut [f32; 1],
+) -> u32
+    ensures { λ r. ⌜ (r ≡ bestNumber (pairSays k step floor (now (a .entry)) (now (b .entry)) (length (now (work .entry))))) × ((now (hues .exit) ≡ bestHues (pairSays k step floor (now (a .entry)) (now (b .entry)) (length (now (work .entry)))) (now (hues .entry))) × (now (chroma .exit) ≡ bestChroma (pairSays k step floor (now (a .entry)) (now (b .entry)) (length (now (work .entry)))) (now (chroma .entry)))) ⌝ }
+    ensures { λ r. ⌜ ((w : ℕ) → pairSays k step floor (now (a .entry)) (now (b .entry)) (length (now (work .entry))) ≡ refused w → now (work .exit) ≡ now (work .entry)) ⌝ }
+{
+    let chosen = pair::best_for_levels(a, b, k, step, floor, work);
+    let answer = chosen.answer;
+    let given = chosen.hues;
+    match answer {
+        pair::Answer::Found(c) => {
+            *hues = given;
+            *chroma = [c];
+            0
+        }
+        pair::Answer::Nothing => {
+            *hues = given;
+            NO_CHROMA
+        }
+        pair::Answer::Refused(why) => why.number() as u32,
+    }
+}
