@@ -4,13 +4,13 @@ use mathlib.Core.List.{List, [], _∷_, _++_}
 use lib.ListN.{take}
 use Rattle.limits.specs.Answers.{Said, value, refused}
 use Rattle.placement_rules.specs.Ring.{Places, nowhere, placed}
-use Rattle.placement_rules.specs.Placing.{placementSays}
+use Rattle.placement_rules.specs.Placing.{placementSays, workNeeded}
 use Rattle.text.specs.Decimal.{decimal}
 use Rattle.ring_reading.specs.Fields.{Line, malformed, asks, lineOf, linesOf}
 
--- how long the work buffer is that the program lends: 3 × 720, so that number 8 never applies
+-- how long the work buffer is that the program lends, so that number 8 never applies
 abbrev pub room : ℕ
-room = 2160
+room = workNeeded 720
 
 -- "a text line checks 17 first", and then placement's refusals
 abbrev pub saidTo : Line → Said Places

@@ -2,6 +2,7 @@
 use native.Mathlib.Omega.{arith}
 use lib.ListN.{length}
 use borrow.Author.Needs.{needs}
+use Rattle.placement_rules.specs.Placing.{workNeeded}
 use Rattle.ring_answers.proofs.Answering.{says-malformed, says-asked, entries-within}
 use Rattle.ring_answers.proofs.said_to.Statement.{statement}
 use Rattle.ring_answers.proofs.said_to.Tie as tie
@@ -31,6 +32,7 @@ place-requires c κs =
     omega arith
 
 returns-2 : tie.Need-returns-2
+unfolding workNeeded
 returns-2 c =
     let p = c .before .before .before .before .before in
     let q = p .before .before .before .before .before in
