@@ -1,3 +1,3 @@
 pub mod Folds
-pub mod Lent
+pub mod Parts
 pub mod Levels

@@ -2,7 +2,7 @@
 // its colours the first k are of the dark level, and the k after them of the light one.
 ghost use mathlib.Core.Path.{_≡_};
 ghost use mathlib.Core.Bool.{false};
-ghost use Prim.Native.Nat.{min};
+ghost use Prim.Native.Nat.{_-_, _≤_, min};
 ghost use lib.Ieee.{inf, binary32, sub};
 ghost use lib.ListN.{take, drop};
 ghost use Rattle.pair_rules.specs.Rows.{greater};
@@ -25,13 +25,14 @@ const HIGHEST: f32 = 3.4028235e38;
 
 const LOWEST: f32 = -3.4028235e38;
 
-// The greatest of some numbers.
-fn greatest(values: &[f32]) -> f32
-    ensures { λ r. ⌜ r ≡ greatest lowest (now (values .entry)) ⌝ }
+// The greatest of the numbers from place `at` up to place `to`.
+fn greatest(values: [f32; 32], at: usize, to: usize) -> f32
+    requires { ⌜ to ≤ 32 ⌝ }
+    ensures { λ r. ⌜ r ≡ greatest lowest (take (to - at) (drop at values)) ⌝ }
 {
     let mut hi = LOWEST;
-    let mut i: usize = 0;
-    while i < values.len() {
+    let mut i = at;
+    while i < to {
         let v = values[i];
         if hi < v {
             hi = v;
@@ -41,13 +42,14 @@ fn greatest(values: &[f32]) -> f32
     hi
 }
 
-// The least of `from` and some numbers.
-fn least(from: f32, values: &[f32]) -> f32
-    ensures { λ r. ⌜ r ≡ least from (now (values .entry)) ⌝ }
+// The least of `from` and of those numbers.
+fn least(from: f32, values: [f32; 32], at: usize, to: usize) -> f32
+    requires { ⌜ to ≤ 32 ⌝ }
+    ensures { λ r. ⌜ r ≡ least from (take (to - at) (drop at values)) ⌝ }
 {
     let mut lo = from;
-    let mut i: usize = 0;
-    while i < values.len() {
+    let mut i = at;
+    while i < to {
         let v = values[i];
         if v < lo {
             lo = v;
@@ -57,11 +59,12 @@ fn least(from: f32, values: &[f32]) -> f32
     lo
 }
 
-// How far some numbers range.
-fn range(values: &[f32]) -> f32
-    ensures { λ r. ⌜ r ≡ spreadIn (now (values .entry)) ⌝ }
+// How far those numbers range.
+fn range(values: [f32; 32], at: usize, to: usize) -> f32
+    requires { ⌜ to ≤ 32 ⌝ }
+    ensures { λ r. ⌜ r ≡ spreadIn (take (to - at) (drop at values)) ⌝ }
 {
-    greatest(values) - least(HIGHEST, values)
+    greatest(values, at, to) - least(HIGHEST, values, at, to)
 }
 
 // A number without its sign.
@@ -86,13 +89,14 @@ fn apart(a: f32, b: f32) -> f32
     d
 }
 
-// The least of `from` and the distances from one hue to others.
-fn least_from(from: f32, hue: f32, others: &[f32]) -> f32
-    ensures { λ r. ⌜ r ≡ leastFrom from hue (now (others .entry)) ⌝ }
+// The least of `from` and the distances from one hue to those from place `at` up to place `to`.
+fn least_from(from: f32, hue: f32, others: [f32; 32], at: usize, to: usize) -> f32
+    requires { ⌜ to ≤ 32 ⌝ }
+    ensures { λ r. ⌜ r ≡ leastFrom from hue (take (to - at) (drop at others)) ⌝ }
 {
     let mut lo = from;
-    let mut i: usize = 0;
-    while i < others.len() {
+    let mut i = at;
+    while i < to {
         let d = apart(hue, others[i]);
         if d < lo {
             lo = d;
@@ -102,14 +106,15 @@ fn least_from(from: f32, hue: f32, others: &[f32]) -> f32
     lo
 }
 
-// The least of `from` and the distances of any two of some hues.
-fn least_apart(from: f32, hues: &[f32]) -> f32
-    ensures { λ r. ⌜ r ≡ leastApart from (now (hues .entry)) ⌝ }
+// The least of `from` and the distances of any two of those hues.
+fn least_apart(from: f32, hues: [f32; 32], at: usize, to: usize) -> f32
+    requires { ⌜ to ≤ 32 ⌝ }
+    ensures { λ r. ⌜ r ≡ leastApart from (take (to - at) (drop at hues)) ⌝ }
 {
     let mut lo = from;
-    let mut i: usize = 0;
-    while i < hues.len() {
-        lo = least_from(lo, hues[i], &hues[i + 1..]);
+    let mut i = at;
+    while i < to {
+        lo = least_from(lo, hues[i], hues, i + 1, to);
         i += 1;
     }
     lo
@@ -131,9 +136,7 @@ pub fn gap_of(k: usize, l: [f32; 32]) -> f32
 {
     let mid = bounded(k);
     let end = bounded(mid + mid);
-    let dark = greatest(&l[0..mid]);
-    let light = least(HIGHEST, &l[mid..end]);
-    light - dark
+    least(HIGHEST, l, mid, end) - greatest(l, 0, mid)
 }
 
 // The greater spread of both levels, by the lightness of their colours.
@@ -142,8 +145,8 @@ pub fn spread_of(k: usize, l: [f32; 32]) -> f32
 {
     let mid = bounded(k);
     let end = bounded(mid + mid);
-    let dark = range(&l[0..mid]);
-    let light = range(&l[mid..end]);
+    let dark = range(l, 0, mid);
+    let light = range(l, mid, end);
     if dark < light {
         return light;
     }
@@ -156,8 +159,8 @@ pub fn separation_of(k: usize, h: [f32; 32]) -> f32
 {
     let mid = bounded(k);
     let end = bounded(mid + mid);
-    let dark = least_apart(f32::from_bits(0x7f80_0000), &h[0..mid]);
-    least_apart(dark, &h[mid..end])
+    let dark = least_apart(f32::from_bits(0x7f80_0000), h, 0, mid);
+    least_apart(dark, h, mid, end)
 }
 
 // The least chroma of both levels.
@@ -166,6 +169,6 @@ pub fn chroma_of(k: usize, c: [f32; 32]) -> f32
 {
     let mid = bounded(k);
     let end = bounded(mid + mid);
-    let dark = least(f32::from_bits(0x7f80_0000), &c[0..mid]);
-    least(dark, &c[mid..end])
+    let dark = least(f32::from_bits(0x7f80_0000), c, 0, mid);
+    least(dark, c, mid, end)
 }

@@ -5,7 +5,7 @@ use lib.Ieee.{ofBits, round}
 use lib.ListN.{length}
 use borrow.Author.Needs.{needs}
 use Rattle.metrics.specs.Metrics.{highest}
-use Rattle.metrics.proofs.Lent.{dark-part, light-part}
+use Rattle.metrics.proofs.Parts.{dark-part, light-part}
 use Rattle.metrics.proofs.gap_of.Statement.{statement}
 use Rattle.metrics.proofs.gap_of.Tie as tie
 
@@ -18,48 +18,25 @@ add-bounded c = search needs
 bounded-requires-2 : tie.Need-bounded-requires-2
 bounded-requires-2 c κs = search needs
 
-sub-greatest : tie.Need-sub-greatest
-sub-greatest c = search needs
-
-part-greatest-start : tie.Need-part-greatest-start
-part-greatest-start c = search needs
-
-part-greatest-end : tie.Need-part-greatest-end
-part-greatest-end c = search needs
+least-requires : tie.Need-least-requires
+least-requires c κs = search needs
 
 greatest-requires : tie.Need-greatest-requires
 greatest-requires c κs = search needs
 
-mul-least : tie.Need-mul-least
-mul-least c = search needs
-
-sub-least : tie.Need-sub-least
-sub-least c = search needs
-
-part-least-start : tie.Need-part-least-start
-part-least-start c = search needs
-
-part-least-end : tie.Need-part-least-end
-part-least-end c = search needs
-
-least-requires : tie.Need-least-requires
-least-requires c κs = search needs
-
 returns : tie.Need-returns
 unfolding highest ofBits round
 returns c =
-    let g = c .before .before .before in
-    let e = g .before .before .before in
+    let e = c .before .before in
     let m = e .before in
     let a = m .before .args in
-    let long : length (a .t2) ≡ 32 = omega arith in
+    let long : length (a .l) ≡ 32 = omega arith in
     rw (
-      c .least .ensures,
-      g .greatest .ensures,
-      light-part (a .k) (m .bounded .result) (e .bounded2 .result) (a .t2) long (m .bounded .ensures) (e .bounded2 .ensures),
-      dark-part (a .k) (m .bounded .result) (e .bounded2 .result) (a .t2) long (m .bounded .ensures) (e .bounded2 .ensures),
+      c .before .least .ensures,
+      c .greatest .ensures,
+      light-part (a .k) (m .bounded .result) (e .bounded2 .result) (a .l) long (m .bounded .ensures) (e .bounded2 .ensures),
+      dark-part (a .k) (m .bounded .result) (e .bounded2 .result) (a .l) long (m .bounded .ensures) (e .bounded2 .ensures),
     )
 
 pub gap-of-spec : {M : Type 1} → statement M
-gap-of-spec =
-    tie.close (tie.spec bounded-requires add-bounded bounded-requires-2 sub-greatest part-greatest-start part-greatest-end greatest-requires mul-least sub-least part-least-start part-least-end least-requires returns)
+gap-of-spec = tie.close (tie.spec bounded-requires add-bounded bounded-requires-2 least-requires greatest-requires returns)

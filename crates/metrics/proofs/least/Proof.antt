@@ -1,30 +1,30 @@
 -- `metrics::least` meets its contract. The invariant: the least of what is left and of the least so far is the least of all. Assumes nothing.
 use mathlib.Core.Path.{_≡_, refl, ap, _∙_}
 use mathlib.Core.Logic.{⊎-elim}
-use Prim.Native.Nat.{_+_, _-_, _≤_}
+use Prim.Native.Nat.{_+_, _-_}
 use native.Mathlib.Omega.{arith}
 use lib.Ieee.{Float, nan}
-use lib.ListN.{length, getD, drop}
+use lib.ListN.{length, getD}
 use Rattle.pair_rules.specs.Rows.{lesser}
 use Rattle.metrics.specs.Metrics.{least}
-use Rattle.metrics.proofs.Folds.{fold-next, fold-done}
+use Rattle.metrics.proofs.Folds.{left-at, fold-next, fold-done}
 use Rattle.metrics.proofs.least.Statement.{statement}
 use Rattle.metrics.proofs.least.Tie as tie
 
 abbrev Inv-loop : tie.InvT-loop
-Inv-loop from values lo₀ i₀ lo i = (i ≤ length values) × (least lo (drop i values) ≡ least from values)
+Inv-loop from at to values lo₀ i₀ lo i = least lo (left-at values to i) ≡ least from (left-at values to at)
 
 abbrev μ-loop : tie.MeasureT-loop
-μ-loop from values lo₀ i₀ lo i = length values - i
+μ-loop from at to values lo₀ i₀ lo i = to - i
 
 loop-holds : tie.Need-loop-holds Inv-loop μ-loop
-loop-holds c = (omega arith, refl)
+loop-holds c = refl
 
 mul-v : tie.Need-mul-v Inv-loop μ-loop
 mul-v c = omega arith
 
-shared-slice-read-v : tie.Need-shared-slice-read-v Inv-loop μ-loop
-shared-slice-read-v c = omega arith
+array-read-v : tie.Need-array-read-v Inv-loop μ-loop
+array-read-v c = omega arith
 
 add-i : tie.Need-add-i Inv-loop μ-loop
 add-i c = omega arith
@@ -35,18 +35,20 @@ loop-less c = omega arith
 loop-again : tie.Need-loop-again Inv-loop μ-loop
 unfolding lesser
 loop-again c =
-    let l = c .before .before .before in
-    let values = l .before .args .values .now in
+    let l = c .before .before in
+    let a = l .before .args in
+    let values = a .t2 in
     let i = l .loop .i in
-    let all = least (l .before .args .from) values in
+    let long : length values ≡ 32 = omega arith in
     let so : c .if1 .lo ≡ lesser (l .loop .lo) (getD values i nan) = ⊎-elim (λ t. rw (t .1, t .0 .taken)) (λ t. rw (t .1, t .0 .left)) (c .if1 .came) in
-    (omega arith, ap (λ (x : Float). least x (drop (i + 1) values)) so ∙ fold-next lesser values (l .loop .lo) all i (l .loop .inv .1) (omega arith))
+    ap (λ (x : Float). least x (left-at values (a .to) (i + 1))) so ∙ fold-next lesser values (l .loop .lo) (least (a .from) (left-at values (a .to) (a .at))) (a .to) i (l .loop .inv) (omega arith) (omega arith)
 
 returns : tie.Need-returns Inv-loop μ-loop
 returns c =
     let l = c .before in
-    let values = l .before .args .values .now in
-    fold-done lesser values (l .loop .lo) (least (l .before .args .from) values) (l .loop .i) (l .loop .inv .1) (omega arith)
+    let a = l .before .args in
+    let values = a .t2 in
+    fold-done lesser values (l .loop .lo) (least (a .from) (left-at values (a .to) (a .at))) (a .to) (l .loop .i) (l .loop .inv) (omega arith)
 
 pub least-spec : {M : Type 1} → statement M
-least-spec = tie.close (tie.spec Inv-loop μ-loop loop-holds mul-v shared-slice-read-v add-i loop-less loop-again returns)
+least-spec = tie.close (tie.spec Inv-loop μ-loop loop-holds mul-v array-read-v add-i loop-less loop-again returns)

@@ -5,7 +5,7 @@ use lib.Ieee.{nanBits}
 use lib.ListN.{length}
 use borrow.Author.Needs.{needs}
 use Rattle.metrics.specs.Metrics.{leastApart}
-use Rattle.metrics.proofs.Lent.{both-levels}
+use Rattle.metrics.proofs.Parts.{both-levels}
 use Rattle.metrics.proofs.separation_of.Statement.{statement}
 use Rattle.metrics.proofs.separation_of.Tie as tie
 
@@ -22,42 +22,20 @@ float-from-bits-least-apart : tie.Need-float-from-bits-least-apart
 unfolding nanBits
 float-from-bits-least-apart c = tt
 
-sub-least-apart : tie.Need-sub-least-apart
-sub-least-apart c = search needs
-
-part-least-apart-start : tie.Need-part-least-apart-start
-part-least-apart-start c = search needs
-
-part-least-apart-end : tie.Need-part-least-apart-end
-part-least-apart-end c = search needs
-
 least-apart-requires : tie.Need-least-apart-requires
 least-apart-requires c κs = search needs
-
-mul-least-apart : tie.Need-mul-least-apart
-mul-least-apart c = search needs
-
-sub-least-apart-2 : tie.Need-sub-least-apart-2
-sub-least-apart-2 c = search needs
-
-part-least-apart-start-2 : tie.Need-part-least-apart-start-2
-part-least-apart-start-2 c = search needs
-
-part-least-apart-end-2 : tie.Need-part-least-apart-end-2
-part-least-apart-end-2 c = search needs
 
 least-apart-requires-2 : tie.Need-least-apart-requires-2
 least-apart-requires-2 c κs = search needs
 
 returns : tie.Need-returns
 returns c =
-    let d = c .before .before .before in
-    let e = d .before .before .before in
+    let d = c .before in
+    let e = d .before in
     let m = e .before in
     let a = m .before .args in
-    let long : length (a .t2) ≡ 32 = omega arith in
-    both-levels (a .k) (m .bounded .result) (e .bounded2 .result) (a .t2) long (m .bounded .ensures) (e .bounded2 .ensures) leastApart (d .least-apart .result) (c .least-apart2 .result) (d .least-apart .ensures) (c .least-apart2 .ensures)
+    let long : length (a .h) ≡ 32 = omega arith in
+    both-levels (a .k) (m .bounded .result) (e .bounded2 .result) (a .h) long (m .bounded .ensures) (e .bounded2 .ensures) leastApart (d .least-apart .result) (c .least-apart2 .result) (d .least-apart .ensures) (c .least-apart2 .ensures)
 
 pub separation-of-spec : {M : Type 1} → statement M
-separation-of-spec =
-    tie.close (tie.spec bounded-requires add-bounded bounded-requires-2 float-from-bits-least-apart sub-least-apart part-least-apart-start part-least-apart-end least-apart-requires mul-least-apart sub-least-apart-2 part-least-apart-start-2 part-least-apart-end-2 least-apart-requires-2 returns)
+separation-of-spec = tie.close (tie.spec bounded-requires add-bounded bounded-requires-2 float-from-bits-least-apart least-apart-requires least-apart-requires-2 returns)

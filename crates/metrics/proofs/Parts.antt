@@ -1,5 +1,4 @@
--- The parts of an array that are lent as slices: what comes after a place; of thirty-two numbers the first k, and the k after them, as far as there are any; and a fold
--- over both levels. Assumes nothing.
+-- The parts of thirty-two numbers that stand for the two levels: the first k, and the k after them, as far as there are any; and a fold over both. Assumes nothing.
 use mathlib.Core.Path.{_≡_, sym, ap, _∙_}
 use mathlib.Core.Bool.{false}
 use mathlib.Core.List.{List}
@@ -10,9 +9,6 @@ use lib.Ieee.{Float, inf, binary32, ofBits}
 use lib.ListN.{length, take, drop, length-drop, drop-of-length-le}
 use lib.Seq.{take-all}
 use Rattle.halving.proofs.Least.{below-or-not}
-
-pub rest-part : (n : ℕ) (xs : List Float) → take (length xs - n) (drop n xs) ≡ drop n xs
-rest-part n xs = let e = length-drop n xs in take-all (length xs - n) (drop n xs) (omega arith)
 
 module _ (k mid end : ℕ) (xs : List Float) (long : length xs ≡ 32) (middle : mid ≡ min k 32) (last : end ≡ min (mid + mid) 32) where
   pub dark-part : take (mid - 0) (drop 0 xs) ≡ take k xs
