@@ -11,7 +11,7 @@ use lib.ListN.{length, take}
 use borrow.Author.Tests.{le-leb, lt-leb, eq-eqb, ne-eqb, eqb-true, eqb-false}
 use Rattle.limits.specs.Taken.{f32Of}
 use Rattle.ring_reading.specs.Numbers.{numberOf}
-use Rattle.ring_reading.specs.Fields.{fieldsOf, joined, numbersOf, Line, malformed, asks, shaped, lineOf}
+use Rattle.ring_reading.specs.Fields.{fieldsOf, joined, numbersOf, malformed, asks, shaped, lineOf}
 use Rattle.ring_reading.specs.Inner.{fieldsFrom, firstNumber, laterFields, Finds, entered, entriesOf, rowRead, withEntries, Heads}
 use Rattle.ring_reading.specs.declared.Field.{Field}
 use Rattle.ring_reading.specs.declared.Field.the-variants.{Number, Missing}

@@ -9,7 +9,11 @@ use lib.ListN.{length}
 use borrow.Author.Tests.{lt-ltb, le-ltb}
 use Rattle.text.specs.Put.{PutIn}
 use Rattle.text.specs.Decimal.{decimal}
+<<<<<<< HEAD
 use Rattle.text.proofs.Put.{puts-both}
+=======
+use Rattle.text.specs.Inner.{threeDigits}
+>>>>>>> 7dcd477 (text: what its private functions promise in a file of its own; unused names left out)
 
 pub puts-one-digit : {a b : List ℕ} {at r : ℕ} (n x : ℕ) → n < 10 → x ≡ 48 + n → PutIn a at (x ∷ []) b r → PutIn a at (decimal n) b r
 unfolding decimal

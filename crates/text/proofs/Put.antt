@@ -1,9 +1,9 @@
 -- Bytes put into a text: one byte, a copy, one after the other, and what the text holds where there is room for all of them. Assumes nothing.
 use mathlib.Core.Path.{_≡_, refl, sym, ap, _∙_}
 use mathlib.Core.Bool.{Bool, true, false}
-use mathlib.Core.List.{List, [], _∷_, _++_, append-assoc, append-nil}
+use mathlib.Core.List.{List, [], _∷_, _++_, append-nil}
 use Prim.Native.Nat.{ℕ, suc, _+_, _-_, _≤_, _<_, min}
-use native.Mathlib.Nat.{add-zero, min-eq-left, min-eq-right}
+use native.Mathlib.Nat.{add-zero, min-eq-left}
 use native.Mathlib.Numerals.{add-one}
 use native.Mathlib.Omega.{arith}
 use lib.Dec.{leb, ltb}
@@ -17,10 +17,11 @@ put-nil : (text : List ℕ) (at : ℕ) → putIn text at [] ≡ text
 unfolding putIn
 put-nil text at = ap (λ (l : List ℕ). take at text ++ l ++ drop (at + 0) text) (take-nil (length text - at)) ∙ sym (paste-zero text at [])
 
+-- past the text's end there is nothing
 past : (text : List ℕ) (n : ℕ) → length text ≤ n → drop n text ≡ []
 past text n h = drop-of-length-le text h
 
--- past the text's end nothing is put
+-- and nothing is put
 put-past : (text : List ℕ) (at : ℕ) (bytes : List ℕ) → length text ≤ at → putIn text at bytes ≡ text
 unfolding putIn
 put-past text at bytes h =
@@ -48,6 +49,7 @@ put-cons text at b bytes = go (ltb at (length text)) refl
         let h = ltb-false at (length text) e in
         put-past text at (b ∷ bytes) h ∙ sym (ap (λ (l : List ℕ). putIn l (at + 1) bytes) (set-out text at b h) ∙ put-past text (at + 1) bytes (omega arith))
 
+-- a text keeps its length
 put-length : (text : List ℕ) (at : ℕ) (bytes : List ℕ) → length (putIn text at bytes) ≡ length text
 put-length text at [] = ap length (put-nil text at)
 put-length text at (b ∷ bytes) = ap length (put-cons text at b bytes) ∙ put-length (set text at b) (at + 1) bytes ∙ length-set text at b
@@ -73,7 +75,7 @@ put-end text at bytes = go (leb at (length text)) refl
         let l : length text ≤ at = omega arith in
         put-past text (min at (length text)) bytes (omega arith) ∙ sym (put-past text at bytes l)
 
--- ---- what a call hands back
+-- ---- what a call hands back: no byte, bytes past the text's end, and one byte
 pub puts-none : (text : List ℕ) → PutIn text 0 [] text 0
 puts-none text = record { holds = sym (put-nil text 0); ends = omega arith }
 
@@ -104,7 +106,7 @@ module _ (text : List ℕ) (at : ℕ) (bytes copy : List ℕ) (i : ℕ) (copied 
           let k = past text (at + length bytes) (omega arith) in
           rw (m, d, k)
 
--- a text keeps its length
+-- the text is as long as it was
 pub put-kept : {a b : List ℕ} {at r : ℕ} {xs : List ℕ} → PutIn a at xs b r → length b ≡ length a
 put-kept {a} {b} {at} {r} {xs} p = ap length (p .holds) ∙ put-length a at xs
 

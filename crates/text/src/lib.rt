@@ -4,6 +4,10 @@ ghost use mathlib.Core.List.{[], _∷_};
 ghost use Prim.Native.Nat.{_+_, _<_, min};
 ghost use Rattle.text.specs.Put.{PutIn};
 ghost use Rattle.text.specs.Decimal.{decimal};
+<<<<<<< HEAD
+=======
+ghost use Rattle.text.specs.Inner.{threeDigits};
+>>>>>>> 7dcd477 (text: what its private functions promise in a file of its own; unused names left out)
 
 // Puts one byte at a place of a text, and gives the next place.
 pub fn put_byte(text: &mut [u8], at: usize, byte: u8) -> usize

@@ -1,7 +1,6 @@
 -- `ring_reading::number_of` meets its contract: each return has its law of the bytes that led there. Assumes nothing.
 use mathlib.Core.Path.{_≡_, sym, _∙_}
 use mathlib.Core.Bool.{true}
-use native.Mathlib.Omega.{arith}
 use borrow.Author.Needs.{needs}
 use borrow.Author.Tests.{not-true, not-false}
 use Rattle.ring_reading.specs.Numbers.{isDigit}
