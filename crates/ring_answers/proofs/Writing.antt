@@ -6,17 +6,10 @@ use native.Mathlib.Omega.{arith}
 use lib.ListN.{length, take, length-append, length-take}
 use Rattle.limits.specs.Answers.{value, refused}
 use Rattle.limits.specs.Refusals.{number}
-<<<<<<< HEAD
 use Rattle.placement_rules.specs.declared.Answer.{Answer}
 use Rattle.placement_rules.specs.declared.Answer.the-variants.{Placed, Nowhere, Refused}
-use Rattle.placement_rules.specs.Ring.{Places, nowhere, placed}
+use Rattle.placement_rules.specs.Ring.{nowhere, placed}
 use Rattle.placement_rules.specs.Placing.{answers}
-=======
-use Rattle.placement.specs.declared.Answer.{Answer}
-use Rattle.placement.specs.declared.Answer.the-variants.{Placed, Nowhere, Refused}
-use Rattle.placement.specs.Ring.{nowhere, placed}
-use Rattle.placement.specs.Placing.{answers}
->>>>>>> 7dcd477 (text: what its private functions promise in a file of its own; unused names left out)
 use Rattle.text.specs.Put.{PutIn, Put}
 use Rattle.text.specs.Decimal.{decimal}
 use Rattle.text.proofs.Put.{puts-both, put-kept, put-fits}

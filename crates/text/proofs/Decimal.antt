@@ -1,33 +1,36 @@
--- A number in decimal: its digits put one after the other, and that it has at most three. Assumes nothing.
-use mathlib.Core.Path.{_≡_}
+-- A number in decimal: its digits by way of three, and that it has at most three. Assumes nothing.
+use mathlib.Core.Path.{_≡_, _∙_}
 use mathlib.Core.Bool.{Bool, true, false, cond}
 use mathlib.Core.List.{List, [], _∷_}
-use Prim.Native.Nat.{ℕ, _+_, _/_, _%_, _≤_, _<_}
+use Prim.Native.Nat.{ℕ, _+_, _-_, _/_, _%_, _≤_, _<_}
 use native.Mathlib.Omega.{arith}
 use lib.Dec.{ltb}
-use lib.ListN.{length}
+use lib.ListN.{length, take, drop, length-drop}
+use lib.Seq.{take-all}
 use borrow.Author.Tests.{lt-ltb, le-ltb}
 use Rattle.text.specs.Put.{PutIn}
 use Rattle.text.specs.Decimal.{decimal}
-<<<<<<< HEAD
-use Rattle.text.proofs.Put.{puts-both}
-=======
 use Rattle.text.specs.Inner.{threeDigits}
->>>>>>> 7dcd477 (text: what its private functions promise in a file of its own; unused names left out)
 
-pub puts-one-digit : {a b : List ℕ} {at r : ℕ} (n x : ℕ) → n < 10 → x ≡ 48 + n → PutIn a at (x ∷ []) b r → PutIn a at (decimal n) b r
+-- ---- the zeros before a number in three digits
+pub zeros-two : (n : ℕ) → n < 10 → drop 2 (threeDigits n) ≡ decimal n
 unfolding decimal
-puts-one-digit n x h e p = rw (lt-ltb n 10 h, ← e) p
+zeros-two n h = let m : n % 10 ≡ n = omega arith in rw (lt-ltb n 10 h, m)
 
-pub puts-two-digits : {a b c : List ℕ} {at m r : ℕ} (n x y : ℕ) → 10 ≤ n → n < 100 → x ≡ 48 + n / 10 → y ≡ 48 + n % 10 → PutIn a at (x ∷ []) b m → PutIn b m (y ∷ []) c r
-    → PutIn a at (decimal n) c r
+pub zeros-one : (n : ℕ) → 10 ≤ n → n < 100 → drop 1 (threeDigits n) ≡ decimal n
 unfolding decimal
-puts-two-digits n x y g h e f p q = rw (le-ltb n 10 g, lt-ltb n 100 h, ← e, ← f) (puts-both p q)
+zeros-one n g h = let m : n / 10 % 10 ≡ n / 10 = omega arith in rw (le-ltb n 10 g, lt-ltb n 100 h, m)
 
-pub puts-three-digits : {a b c d : List ℕ} {at m l r : ℕ} (n x y z : ℕ) → 10 ≤ n → 100 ≤ n → x ≡ 48 + n / 100 % 10 → y ≡ 48 + n / 10 % 10 → z ≡ 48 + n % 10
-    → PutIn a at (x ∷ []) b m → PutIn b m (y ∷ []) c l → PutIn c l (z ∷ []) d r → PutIn a at (decimal n) d r
+pub zeros-none : (n : ℕ) → 100 ≤ n → drop 0 (threeDigits n) ≡ decimal n
 unfolding decimal
-puts-three-digits n x y z g h e f k p q s = rw (le-ltb n 10 g, le-ltb n 100 h, ← e, ← f, ← k) (puts-both p (puts-both q s))
+zeros-none n h = let g : 10 ≤ n = omega arith in rw (le-ltb n 10 g, le-ltb n 100 h)
+
+-- the digits after them
+pub puts-number : {a b : List ℕ} {at r : ℕ} (n x y z from : ℕ) → x ≡ 48 + n / 100 % 10 → y ≡ 48 + n / 10 % 10 → z ≡ 48 + n % 10 → from ≤ 2 → drop from (threeDigits n) ≡ decimal n
+    → PutIn a at (take (3 - from) (drop from (x ∷ y ∷ z ∷ []))) b r → PutIn a at (decimal n) b r
+puts-number n x y z from e f g h d p =
+    let t : take (3 - from) (drop from (threeDigits n)) ≡ decimal n = take-all (3 - from) (drop from (threeDigits n)) (omega (arith, length-drop from (threeDigits n))) ∙ d in
+    rw t at (rw (e, f, g) at p)
 
 -- a number has at most three digits
 pub decimal-long : (n : ℕ) → length (decimal n) ≤ 3

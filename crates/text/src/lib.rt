@@ -1,13 +1,11 @@
 // Bytes and decimal numbers put into a text that is lent. A text that is too short takes as many bytes as it has room for.
 ghost use mathlib.Core.Path.{_≡_};
 ghost use mathlib.Core.List.{[], _∷_};
-ghost use Prim.Native.Nat.{_+_, _<_, min};
+ghost use Prim.Native.Nat.{_+_, _≤_, _<_, min};
+ghost use lib.ListN.{drop};
 ghost use Rattle.text.specs.Put.{PutIn};
 ghost use Rattle.text.specs.Decimal.{decimal};
-<<<<<<< HEAD
-=======
 ghost use Rattle.text.specs.Inner.{threeDigits};
->>>>>>> 7dcd477 (text: what its private functions promise in a file of its own; unused names left out)
 
 // Puts one byte at a place of a text, and gives the next place.
 pub fn put_byte(text: &mut [u8], at: usize, byte: u8) -> usize
@@ -52,19 +50,24 @@ fn digit(n: u16) -> u8
     b'0' + n as u8
 }
 
+// How many zeros stand before a number in three digits, of which the last counts as none.
+fn zeros(n: u16) -> usize
+    ensures { λ r. ⌜ (r ≤ 2) × (drop r (threeDigits n) ≡ decimal n) ⌝ }
+{
+    if n < 10 {
+        return 2;
+    }
+    if n < 100 {
+        return 1;
+    }
+    0
+}
+
 // Puts a number in decimal, of which the last three digits count, at a place of a text, and gives the next place.
 pub fn put_number(text: &mut [u8], at: usize, n: u16) -> usize
     ensures { λ r. ⌜ PutIn (now (text .entry)) at (decimal n) (now (text .exit)) r ⌝ }
 {
-    if n < 10 {
-        return put_byte(text, at, digit(n));
-    }
-    let low = digit(n % 10);
-    if n < 100 {
-        let second = put_byte(text, at, digit(n / 10));
-        return put_byte(text, second, low);
-    }
-    let second = put_byte(text, at, digit(n / 100 % 10));
-    let third = put_byte(text, second, digit(n / 10 % 10));
-    put_byte(text, third, low)
+    let digits = [digit(n / 100 % 10), digit(n / 10 % 10), digit(n % 10)];
+    let from = zeros(n);
+    put_bytes(text, at, &digits[from..3])
 }
