@@ -34,6 +34,9 @@ loop-again c = tt
 returns : tie.Need-returns Inv-loop μ-loop
 returns c = tt
 
+returns-2 : tie.Need-returns-2 Inv-loop μ-loop
+returns-2 c = tt
+
 pub read-spec : {M : Type 1} → statement M
 read-spec =
-    tie.close (tie.spec Inv-loop μ-loop new-requires loop-holds is-done-requires turned-requires sub-turns loop-less loop-again returns)
+    tie.close (tie.spec Inv-loop μ-loop new-requires loop-holds is-done-requires turned-requires sub-turns loop-less loop-again returns returns-2)
