@@ -78,8 +78,8 @@ fn main() {
     let read = input::read();
     if read.whole() {
         let settings = read.settings;
-        let run_read = read.run;
-        let all = run_read.directions;
+        let came = read.run;
+        let all = came.directions;
         let cos = all.cos;
         let sin = all.sin;
         show::asked(settings);
