@@ -1,5 +1,2 @@
-pub mod Hex
 pub mod Inside
 pub mod Operands
-pub mod Turns
-pub mod Degrees

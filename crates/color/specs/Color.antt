@@ -1,37 +1,19 @@
 -- Document 01, "Colour": the conversions over every f32, NaN, infinities and minus zero included. Multiplications and additions run in the
 -- order written in the Rust, each rounded once. `lt` and `le` are false where a NaN stands. Definitions only.
 use Prim.Native.Nat.{ℕ}
-use mathlib.Core.Bool.{Bool, _&&_, cond}
+use mathlib.Core.Bool.{Bool, cond}
 use mathlib.Core.List.{List, [], _∷_}
-use lib.Ieee.{Float, nan, binary32, add, sub, mul, div, lt, le}
+use lib.Ieee.{Float, nan, binary32, add, sub, mul, div, lt}
 use lib.ListN.{getD}
 use Rattle.limits.specs.Taken.{f32Of, rootOperandTaken}
 use Rattle.roots.specs.declared.Root.{Root}
 use Rattle.roots.specs.declared.Root.the-variants.{Is, Refused}
 use Rattle.roots.specs.Roots.{rootOf}
-use Rattle.transfer.specs.Transfer.{decodeOf, encodeOf}
-use Rattle.color.specs.declared.Srgb8.{Srgb8}
-use Rattle.color.specs.declared.Linear.{Linear}
+use Rattle.srgb.specs.declared.Srgb8.{Srgb8}
+use Rattle.srgb.specs.declared.Linear.{Linear}
+use Rattle.srgb.specs.Channels.{inGamut, srgb8ToLinear}
 use Rattle.color.specs.declared.Lab.{Lab}
-use Rattle.color.specs.Constants.{toXyz, fromXyz, row, white, gamutLow, gamutHigh, deltaCubed, slope, offset, delta}
-
--- ---- one channel
-
--- brought to 0 to 1: minus zero and NaN stay, as with Rust's `clamp`
-unfoldable pub clampTo : Float → Float
-clampTo v = cond (lt v (f32Of 0)) (f32Of 0) (cond (lt (f32Of 1) v) (f32Of 1) v)
-
--- in gamut: from -1e-4 to 1 + 1e-4 inclusive; NaN fails
-unfoldable pub gamutChannel : Float → Bool
-gamutChannel v = le gamutLow v && le v gamutHigh
-
--- `Linear::clamped`: each channel brought to 0 to 1
-unfoldable pub clampedOf : Linear → Linear
-clampedOf c = record { r = clampTo (c .r); g = clampTo (c .g); b = clampTo (c .b) }
-
--- "In gamut: each channel .."; `Linear::in_gamut`
-unfoldable pub inGamut : Linear → Bool
-inGamut c = gamutChannel (c .r) && (gamutChannel (c .g) && gamutChannel (c .b))
+use Rattle.color.specs.Constants.{toXyz, fromXyz, row, white, deltaCubed, slope, offset, delta}
 
 -- ---- roots: "The conversions refuse nothing", and no negative operand comes here
 
@@ -43,16 +25,6 @@ orOperand (Refused w) x = x
 -- the root of plus infinity is plus infinity, that of NaN is NaN
 unfoldable pub rootInside : ℕ → Float → Float
 rootInside n x = cond (rootOperandTaken x) (rootOf n x) x
-
--- ---- sRGB and linear light
-
--- each channel by its decode constant
-unfoldable pub srgb8ToLinear : Srgb8 → Linear
-srgb8ToLinear c = record { r = decodeOf (c .r); g = decodeOf (c .g); b = decodeOf (c .b) }
-
--- each channel by how many encode constants are at most it
-unfoldable pub linearToSrgb8 : Linear → Srgb8
-linearToSrgb8 c = record { r = encodeOf (c .r); g = encodeOf (c .g); b = encodeOf (c .b) }
 
 -- ---- linear light and XYZ
 

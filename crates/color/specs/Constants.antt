@@ -2,7 +2,7 @@
 use Prim.Native.Nat.{ℕ, _^_}
 use mathlib.Core.Bool.{true, false}
 use mathlib.Core.List.{List, [], _∷_}
-use lib.Ieee.{Float, binary32, round, add}
+use lib.Ieee.{Float, binary32, round}
 use lib.ListN.{getD}
 use Rattle.limits.specs.Taken.{f32Of}
 
@@ -29,14 +29,6 @@ row m i = getD m i []
 -- the white point
 unfoldable pub white : List Float
 white = round binary32 false 95047 (10 ^ 5) ∷ f32Of 1 ∷ round binary32 false 108883 (10 ^ 5) ∷ []
-
--- in gamut is from -1e-4
-unfoldable pub gamutLow : Float
-gamutLow = round binary32 true 1 (10 ^ 4)
-
--- to 1 + 1e-4, one f32 sum
-unfoldable pub gamutHigh : Float
-gamutHigh = add binary32 (f32Of 1) (round binary32 false 1 (10 ^ 4))
 
 -- CIE 15: (6/29) ^ 3
 unfoldable pub deltaCubed : Float

@@ -4,9 +4,9 @@ use case_words::float_at;
 use case_words::same_at;
 use case_words::word_at;
 use color::Lab;
-use color::Linear;
-use color::Srgb8;
 use roots::Root;
+use srgb::Linear;
+use srgb::Srgb8;
 
 // The first three words as a colour by its floats.
 fn linear_of(words: [u32; 24]) -> Linear {
@@ -85,7 +85,7 @@ fn same_root(root: Root, words: [u32; 24]) -> bool {
 
 // Whether a clipped colour is the one that is expected.
 fn same_clipped(words: [u32; 24]) -> bool {
-    let clipped = color::lch_to_srgb8_gamut_clipped(
+    let clipped = clipping::lch_to_srgb8_gamut_clipped(
         float_at(words, 0),
         float_at(words, 1),
         float_at(words, 2),
@@ -120,7 +120,7 @@ fn agrees_of_codes(operation: u64, words: [u32; 24]) -> bool {
     }
     let codes = codes_of(words);
     match operation {
-        operations::S2L => same_linear(color::srgb8_to_linear(codes), words),
+        operations::S2L => same_linear(srgb::srgb8_to_linear(codes), words),
         operations::S2LAB => same_lab(color::srgb8_to_lab(codes), words),
         _ => false,
     }
@@ -131,7 +131,7 @@ fn agrees_of_linear(operation: u64, words: [u32; 24]) -> bool {
     let c = linear_of(words);
     match operation {
         operations::L2S => same_codes(
-            color::linear_to_srgb8(c),
+            srgb::linear_to_srgb8(c),
             word_at(words, 3),
             word_at(words, 4),
             word_at(words, 5),

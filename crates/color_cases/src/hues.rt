@@ -2,7 +2,7 @@
 use crate::compare;
 use case_directions::run::Run;
 use case_words::word_at;
-use color::Hue;
+use hue::Hue;
 
 // Whether a hue is the one that is expected, or is refused with the number that is.
 fn same_hue(hue: Hue, number: u32, bits: u32) -> bool {
@@ -15,7 +15,11 @@ fn same_hue(hue: Hue, number: u32, bits: u32) -> bool {
 // Whether these directions give the hue that is expected.
 fn among(words: [u32; 24], cos: &[f32], sin: &[f32]) -> bool {
     let lab = compare::lab_of(words);
-    same_hue(lab.hue_deg(cos, sin), word_at(words, 3), word_at(words, 4))
+    same_hue(
+        hue::hue_deg(lab, cos, sin),
+        word_at(words, 3),
+        word_at(words, 4),
+    )
 }
 
 // Whether the first cosines and sines alone do.

@@ -1,11 +1,11 @@
 // Functions for callers in other languages, each exported under its own name. A slice is handed over as the address of its
 // first element, then its length; what is written must overlap nothing else that is handed over.
-use color::Srgb8;
 use palette::BackOff;
 use palette::Design;
 use search::Best;
 use search::Job;
 use search::Settings;
+use srgb::Srgb8;
 ghost use mathlib.Core.Path.{_≡_};
 ghost use mathlib.Core.List.{map};
 ghost use Prim.Native.Nat.{ℕ};
@@ -15,7 +15,7 @@ ghost use Rattle.placement_rules.specs.Placing.{placementSays};
 ghost use Rattle.pair_rules.specs.Pair.{pairSays};
 ghost use Rattle.search_rules.specs.Job.{searchSays};
 ghost use Rattle.gamut.specs.Gamut.{fillSays, rowAfter};
-ghost use Rattle.color.specs.Parts.{toHex};
+ghost use Rattle.srgb.specs.Parts.{toHex};
 ghost use Rattle.palette.specs.BackOff.{backOffSays};
 ghost use Rattle.handing.specs.Numbers.{numberOf, placeNumber, huesAfter, bestNumber, bestHues, bestChroma};
 ghost use Rattle.exports.specs.Numbers.{settingsOf, handed, searchHands, designOf, backed, backOffHands};

@@ -1,7 +1,6 @@
 // The lines that say what validation and back-off find, and the colours.
 use crate::numbers;
 use crate::show;
-use color::Srgb8;
 use metrics::Metrics;
 use palette::BackOff;
 use palette::BackedOff;
@@ -9,6 +8,7 @@ use palette::Design;
 use palette::Finding;
 use palette::Validation;
 use palette::Verdict;
+use srgb::Srgb8;
 
 // Writes a finding.
 fn finding_line(finding: Finding) {

@@ -5,8 +5,8 @@ use mathlib.Core.List.{List, map}
 use Prim.Native.Nat.{ℕ, _≤_}
 use lib.Ieee.{Float, inf, binary32, sub}
 use borrow.Author.Tests.{le-leb}
-use Rattle.color.specs.declared.Srgb8.{Srgb8}
-use Rattle.color.specs.Hue.{colorHue}
+use Rattle.srgb.specs.declared.Srgb8.{Srgb8}
+use Rattle.hue.specs.Hue.{colorHue}
 use Rattle.pair_rules.specs.Rows.{greater}
 use Rattle.metrics.specs.declared.Metrics.{Metrics}
 use Rattle.metrics.specs.Metrics.{highest, lowest, greatest, least, lightnessOf, chromaIn, darks, lights, gapOf, spreadIn, spreadOf, leastApart, separationOf, leastChroma, metricsOf}

@@ -6,9 +6,9 @@ use lib.Dec.{leb}
 use lib.Ieee.{Float, inf, binary32, round, sub, neg, lt}
 use lib.ListN.{take, drop}
 use Rattle.limits.specs.Taken.{f32Of}
-use Rattle.color.specs.declared.Srgb8.{Srgb8}
+use Rattle.srgb.specs.declared.Srgb8.{Srgb8}
 use Rattle.color.specs.Color.{srgb8ToLab, chromaOf}
-use Rattle.color.specs.Hue.{colorHue}
+use Rattle.hue.specs.Hue.{colorHue}
 use Rattle.pair_rules.specs.Rows.{lesser, greater}
 use Rattle.metrics.specs.declared.Metrics.{Metrics}
 

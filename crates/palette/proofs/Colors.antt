@@ -9,7 +9,7 @@ use lib.Ieee.{Float}
 use lib.ListN.{length, getD, take, replicate, length-append, length-replicate, List·getD-append}
 use lib.Seq.{length-take-le, getD-append-add, getD-take, ext-getD}
 use Rattle.halving.proofs.Least.{below-or-not}
-use Rattle.color.specs.declared.Srgb8.{Srgb8}
+use Rattle.srgb.specs.declared.Srgb8.{Srgb8}
 use Rattle.gamut.specs.Gamut.{levelOf}
 use Rattle.palette.specs.declared.Design.{Design}
 use Rattle.palette.specs.Derivation.{black, shown, levelColors, colorsOf}

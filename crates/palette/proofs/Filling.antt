@@ -8,7 +8,7 @@ use lib.Ieee.{Float, nan}
 use lib.ListN.{length, getD, set, take, drop}
 use lib.Seq.{getD-set-same, getD-set-other, drop-cons}
 use borrow.Author.Count.{below-more}
-use Rattle.color.specs.declared.Srgb8.{Srgb8}
+use Rattle.srgb.specs.declared.Srgb8.{Srgb8}
 use Rattle.palette.specs.Derivation.{black}
 use Rattle.metrics.specs.Metrics.{darks, lights}
 use Rattle.palette.specs.Inner.{Filled, Measured}

@@ -8,7 +8,7 @@ use lib.ListN.{replicate}
 use Rattle.limits.specs.Answers.{Said, value, refused}
 use Rattle.limits.specs.Refusals.{number}
 use Rattle.limits.specs.Taken.{f32Of}
-use Rattle.color.specs.declared.Srgb8.{Srgb8}
+use Rattle.srgb.specs.declared.Srgb8.{Srgb8}
 use Rattle.palette.specs.declared.Design.{Design}
 use Rattle.palette.specs.declared.BackOff as back-off
 use Rattle.palette.specs.declared.BackOff.the-variants as back-off-of

@@ -8,8 +8,8 @@ use lib.ListN.{getD, take, replicate}
 use Rattle.limits.specs.Answers.{Said, value, refused}
 use Rattle.limits.specs.Refusals.{number}
 use Rattle.limits.specs.Taken.{hueCountTaken, chromaTaken, directionsTaken}
-use Rattle.color.specs.declared.Srgb8.{Srgb8}
-use Rattle.color.specs.Clip.{clippedOf}
+use Rattle.srgb.specs.declared.Srgb8.{Srgb8}
+use Rattle.clipping.specs.Clip.{clippedOf}
 use Rattle.gamut.specs.Gamut.{levelOf}
 use Rattle.palette.specs.declared.Design.{Design}
 use Rattle.palette.specs.declared.Derivation.{Derivation}

@@ -6,7 +6,7 @@ use Prim.Native.Nat.{ℕ, _+_, _≤_, _<_}
 use lib.Ieee.{Float, nan}
 use lib.ListN.{length, getD}
 use Rattle.limits.specs.Taken.{directionsTaken, hueCountTaken}
-use Rattle.color.specs.declared.Srgb8.{Srgb8}
+use Rattle.srgb.specs.declared.Srgb8.{Srgb8}
 use Rattle.palette.specs.declared.Design.{Design}
 use Rattle.palette.specs.Derivation.{black, levelsTaken, huesTaken, colorsOf}
 

@@ -7,7 +7,7 @@ use lib.Ieee.{Float, binary32, div, lt}
 use Rattle.limits.specs.Answers.{Said, value, refused}
 use Rattle.limits.specs.Refusals.{number}
 use Rattle.limits.specs.Taken.{f32Of, hueCountTaken, directionsTaken}
-use Rattle.color.specs.declared.Srgb8.{Srgb8}
+use Rattle.srgb.specs.declared.Srgb8.{Srgb8}
 use Rattle.metrics.specs.declared.Metrics.{Metrics}
 use Rattle.palette.specs.declared.Finding.{Finding}
 use Rattle.palette.specs.declared.Finding.the-variants.{Gap, Spread, Separation, Chroma}

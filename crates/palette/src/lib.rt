@@ -1,10 +1,10 @@
 // Palettes: derivation, validation and back-off. `derive` and `back_off` of xtask/src/palette.rs, `Palette::new` and `validate`
 // of crates/lcr-core/src/palette.rs, with lent directions.
-use color::Srgb8;
 use gamut::Gamut;
 use limits::Checked;
 use limits::Refusal;
 use metrics::Metrics;
+use srgb::Srgb8;
 ghost use mathlib.Core.Path.{_≡_};
 ghost use mathlib.Core.Bool.{true};
 ghost use Prim.Native.Nat.{_≤_};
@@ -12,7 +12,7 @@ ghost use lib.ListN.{length, replicate};
 ghost use Rattle.limits.specs.Answers.{value};
 ghost use Rattle.limits.specs.Taken.{chromaTaken, directionsTaken};
 ghost use Rattle.limits.specs.Refusals.{checkSaid};
-ghost use Rattle.color.specs.Hue.{colorHue};
+ghost use Rattle.hue.specs.Hue.{colorHue};
 ghost use Rattle.gamut.specs.Gamut.{levelOf};
 ghost use Rattle.metrics.specs.Metrics.{lightnessOf, chromaIn, metricsOf};
 ghost use Rattle.palette.specs.Derivation.{huesTaken, designChecked, black, shown, colorsOf, derivationSays, derivationSaid, colorsBeside};
@@ -149,7 +149,7 @@ fn color_of(level: usize, hue: u16, chroma: f32, cos: &[f32], sin: &[f32]) -> Sr
 {
     let j = hue as usize;
     let l = Gamut::l_of(level as u16);
-    color::lch_to_srgb8_gamut_clipped(l, chroma, cos[j], sin[j]).color
+    clipping::lch_to_srgb8_gamut_clipped(l, chroma, cos[j], sin[j]).color
 }
 
 // The colour in place i of the 2k: the first k are dark.
@@ -210,7 +210,7 @@ fn hues_in(n: usize, colors: [Srgb8; 32], cos: &[f32], sin: &[f32]) -> [f32; 32]
     requires { ⌜ (n ≤ 32) × (directionsTaken (now cos) (now sin) ≡ true) ⌝ }
     ensures { λ r. ⌜ Measured (colorHue (now (cos .entry)) (now (sin .entry))) n colors r ⌝ }
 {
-    color::srgb8_hues(n, colors, cos, sin).degrees
+    hue::srgb8_hues(n, colors, cos, sin).degrees
 }
 
 // Lightness and chroma of colours, each in the place of its colour.

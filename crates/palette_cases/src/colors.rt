@@ -2,7 +2,7 @@
 use case_words::entries;
 use case_words::size_at;
 use case_words::word_at;
-use color::Srgb8;
+use srgb::Srgb8;
 
 // Whether the word at a place is below a limit, or comes before the first that must be.
 fn is_fine(word: u32, place: usize, from: usize, limit: u32) -> bool {

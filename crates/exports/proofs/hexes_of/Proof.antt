@@ -7,7 +7,7 @@ use native.Mathlib.Omega.{arith}
 use lib.ListN.{length, getD, length-map, length-set, List·getD-map}
 use lib.Seq.{getD-set-same, getD-set-other, ext-getD}
 use borrow.Author.Count.{below-none, below-more}
-use Rattle.color.specs.Parts.{toHex}
+use Rattle.srgb.specs.Parts.{toHex}
 use Rattle.palette.specs.Derivation.{black}
 use Rattle.exports.proofs.hexes_of.Statement.{statement}
 use Rattle.exports.proofs.hexes_of.Tie as tie

@@ -5,7 +5,7 @@ use Prim.Native.Nat.{ℕ, _+_}
 use lib.Ieee.{Float}
 use borrow.Author.Needs.{needs}
 use Rattle.limits.specs.Answers.{Said, value, refused}
-use Rattle.color.specs.Parts.{toHex}
+use Rattle.srgb.specs.Parts.{toHex}
 use Rattle.palette.specs.declared.BackOff.{BackOff}
 use Rattle.palette.specs.declared.Design.{Design}
 use Rattle.palette.specs.BackOff.{Ending, passes, lastly, backOffSaid, colorsAfter}

@@ -5,8 +5,8 @@ use Prim.Native.Nat.{ℕ}
 use lib.Ieee.{Float, nan}
 use lib.ListN.{getD}
 use borrow.Author.Needs.{needs}
-use Rattle.color.specs.declared.Clipped.{Clipped}
-use Rattle.color.specs.Clip.{clippedOf}
+use Rattle.clipping.specs.declared.Clipped.{Clipped}
+use Rattle.clipping.specs.Clip.{clippedOf}
 use Rattle.gamut.specs.Gamut.{levelOf}
 use Rattle.palette.specs.Derivation.{shown}
 use Rattle.palette.proofs.color_of.Statement.{statement}

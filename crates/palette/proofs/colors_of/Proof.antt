@@ -8,7 +8,7 @@ use lib.ListN.{length, getD, length-map, length-set, length-replicate}
 use lib.Seq.{getD-set-same, getD-set-other}
 use borrow.Author.Count.{below-none, below-more}
 use borrow.Author.Needs.{needs}
-use Rattle.color.specs.declared.Srgb8.{Srgb8}
+use Rattle.srgb.specs.declared.Srgb8.{Srgb8}
 use Rattle.palette.specs.Derivation.{black}
 use Rattle.palette.specs.Inner.{colorAt}
 use Rattle.palette.proofs.Ready.{few-hues}

@@ -9,9 +9,9 @@ use lib.ListN.{length}
 use borrow.Author.Needs.{needs}
 use borrow.Author.Tests.{le-leb}
 use Rattle.limits.specs.Taken.{directionsTaken}
-use Rattle.color.specs.declared.Srgb8.{Srgb8}
-use Rattle.color.specs.Hue.{colorHue, colorHues, huesSays, degreesBeside}
-use Rattle.color.proofs.Degrees.{hues-long, hues-at}
+use Rattle.srgb.specs.declared.Srgb8.{Srgb8}
+use Rattle.hue.specs.Hue.{colorHue, colorHues, huesSays, degreesBeside}
+use Rattle.hue.proofs.Degrees.{hues-long, hues-at}
 use Rattle.palette.specs.Derivation.{black}
 use Rattle.palette.specs.Inner.{Measured}
 use Rattle.palette.proofs.hues_in.Statement.{statement}

@@ -7,8 +7,8 @@ use native.Mathlib.Omega.{arith}
 use lib.Ieee.{Float, inf, ofBits, nanBits}
 use borrow.Author.Needs.{needs}
 use Rattle.limits.proofs.HueCount.{hue-count}
-use Rattle.color.specs.declared.Srgb8.{Srgb8}
-use Rattle.color.specs.Hue.{colorHue}
+use Rattle.srgb.specs.declared.Srgb8.{Srgb8}
+use Rattle.hue.specs.Hue.{colorHue}
 use Rattle.metrics.specs.Metrics.{lightnessOf, chromaIn, separationOf, leastChroma}
 use Rattle.metrics.proofs.Levels.{metrics-are, separation-is, chroma-is, one-separation, one-chroma}
 use Rattle.palette.proofs.Filling.{dark-is, light-is}

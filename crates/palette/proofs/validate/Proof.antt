@@ -10,7 +10,7 @@ use borrow.Author.Tests.{eq-eqb, ne-eqb, not-true, not-false}
 use Rattle.limits.specs.Answers.{Said, value, refused}
 use Rattle.limits.specs.Taken.{hueCountTaken, directionsTaken}
 use Rattle.limits.proofs.HueCount.{hue-count}
-use Rattle.color.specs.declared.Srgb8.{Srgb8}
+use Rattle.srgb.specs.declared.Srgb8.{Srgb8}
 use Rattle.metrics.specs.declared.Metrics.{Metrics}
 use Rattle.metrics.specs.Metrics.{metricsOf}
 use Rattle.palette.specs.Validation.{Judgement, Judged, firstOf, findings, judged, verdictSaid, validationSays}
