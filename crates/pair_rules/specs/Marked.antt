@@ -1,14 +1,14 @@
 -- Document 01's marked cases: R1 to R8, P1, P2 and S1 to S4, as rows of one list. Definitions only.
 use mathlib.Core.Path.{_≡_}
-use mathlib.Core.List.{List, [], _∷_, map}
+use mathlib.Core.List.{List, [], _∷_, _++_, map}
 use mathlib.Core.Bool.{false}
-use Prim.Native.Nat.{ℕ, _^_}
+use Prim.Native.Nat.{ℕ, _-_, _^_}
 use lib.Ieee.{Float, binary32, round, add}
 use lib.ListN.{length, replicate}
 use Rattle.limits.specs.Answers.{value}
 use Rattle.limits.specs.Taken.{f32Of}
-use Rattle.placement_rules.specs.Ring.{Places, nowhere, placed, placement}
-use Rattle.placement_rules.specs.Placing.{allowedAt, stepFor, workNeeded}
+use Rattle.placement_rules.specs.Ring.{Places, nowhere, placed}
+use Rattle.placement_rules.specs.Placing.{placementSays, stepSays, workNeeded}
 use Rattle.pair_rules.specs.Pair.{found, pairSays}
 
 -- a ring with its entries, k, step and chroma, and what is placed; or the one entry of both rows, k, step and floor, and the chroma found; or a k and its step
@@ -17,11 +17,16 @@ pub data Marked : Type 0 where
   pair : Float → ℕ → ℕ → ℕ → ℕ → Marked
   step : ℕ → ℕ → Marked
 
--- the definitions give what the row says
+-- "Hues come back as 16 indices, zeros after the first k."
+abbrev pub padded : Places → Places
+padded nowhere = nowhere
+padded (placed is) = placed (is ++ replicate (16 - length is) 0)
+
+-- what the calls say is what the row says, with a work buffer that is just long enough
 abbrev pub Agrees : Marked → Type 0
-Agrees (ring entries k s c is) = placement (allowedAt (map f32Of entries) (f32Of c)) (length entries) k s ≡ is
+Agrees (ring entries k s c is) = placementSays k s (f32Of c) (map f32Of entries) (workNeeded (length entries)) ≡ value (padded is)
 Agrees (pair x k s floor c) = (hues : List ℕ) × (pairSays k s (f32Of floor) (replicate 720 x) (replicate 720 x) (workNeeded 720) ≡ value (found (f32Of c) hues))
-Agrees (step k s) = stepFor k ≡ s
+Agrees (step k s) = stepSays k ≡ value s
 
 -- "Marked cases, ring of 8, entries .."
 abbrev eight : List ℕ
