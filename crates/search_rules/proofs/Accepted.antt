@@ -63,6 +63,13 @@ module _ (j : Job) (t : List Float) (room : ℕ) where
       let b : light < j .levels = mod-lt (j .position) L in
       (omega arith, omega arith)
 
+  -- what a step says once 15, 14, 6 and 8 are passed, by whether its pair qualifies and whether its two rows are taken
+  abbrev goes-on : Bool → Bool → Said Job
+  goes-on q e = cond q (cond e (value (afterPair j dark light (pairBest j t dark light))) (refused 7)) (value (movedOn j))
+
+  abbrev both-rows : Bool
+  both-rows = every entryTaken (rowAt t dark) && every entryTaken (rowAt t light)
+
   pub step-only : Accepted (stepSays j t room) → StepTaken j t room
   unfolding stepSays stepChecked searched
   step-only a =
@@ -78,12 +85,10 @@ module _ (j : Job) (t : List Float) (room : ℕ) where
         entries = λ (far : FarApart (j .settings .gap) dark light). read (qualified (j .settings) (sound .gap) dark light (inside sound u .0) (inside sound u .1) far) (f .1);
       }
     where
-      read : qualifies (j .settings) dark light ≡ true
-          → cond (qualifies (j .settings) dark light) (cond (every entryTaken (rowAt t dark) && every entryTaken (rowAt t light)) (value (afterPair j dark light (pairBest j t dark light))) (refused 7)) (value (movedOn j)) ≡ value (a .0)
-          → EachTaken (rowAt t dark) × EachTaken (rowAt t light)
-      read q h = go (every entryTaken (rowAt t dark) && every entryTaken (rowAt t light)) refl (subst (λ (b : Bool). cond b (cond (every entryTaken (rowAt t dark) && every entryTaken (rowAt t light)) (value (afterPair j dark light (pairBest j t dark light))) (refused 7)) (value (movedOn j)) ≡ value (a .0)) q h)
+      read : qualifies (j .settings) dark light ≡ true → goes-on (qualifies (j .settings) dark light) both-rows ≡ value (a .0) → EachTaken (rowAt t dark) × EachTaken (rowAt t light)
+      read q h = go both-rows refl (subst (λ (b : Bool). goes-on b both-rows ≡ value (a .0)) q h)
         where
-          go : (b : Bool) → (every entryTaken (rowAt t dark) && every entryTaken (rowAt t light)) ≡ b → cond b (value (afterPair j dark light (pairBest j t dark light))) (refused 7) ≡ value (a .0) → EachTaken (rowAt t dark) × EachTaken (rowAt t light)
+          go : (b : Bool) → both-rows ≡ b → goes-on true b ≡ value (a .0) → EachTaken (rowAt t dark) × EachTaken (rowAt t light)
           go true e h = let r = both (every entryTaken (rowAt t dark)) (every entryTaken (rowAt t light)) e in (each-true entryTaken (rowAt t dark) (r .0), each-true entryTaken (rowAt t light) (r .1))
           go false e h = absurd (let z : _≡_ {A = ℕ} 0 1 = cc in omega arith)
 
@@ -95,13 +100,13 @@ module _ (j : Job) (t : List Float) (room : ℕ) where
       passes : AllPass (step-checks j (length t) room)
       passes = step-passes j (length t) room (record { sound = unbroken-exactly j .1 (h .unbroken); unfinished = h .unfinished; whole = h .whole-levels; room-enough = h .room-enough })
 
-      go : (q : Bool) → qualifies (j .settings) dark light ≡ q → Accepted (cond q (cond (every entryTaken (rowAt t dark) && every entryTaken (rowAt t light)) (value (afterPair j dark light (pairBest j t dark light))) (refused 7)) (value (movedOn j)))
-      go false e = (movedOn j, refl)
+      go : (q : Bool) → qualifies (j .settings) dark light ≡ q → Accepted (goes-on q both-rows)
+      go false e = (_, refl)
       go true e =
           let sound = h .unbroken in
           let u = h .unfinished in
           let r = h .entries (far-apart (j .settings) (sound .gap) dark light (inside sound u .0) (inside sound u .1) e) in
-          rw (every-true entryTaken (rowAt t dark) (r .0), every-true entryTaken (rowAt t light) (r .1)) (afterPair j dark light (pairBest j t dark light), refl)
+          rw (every-true entryTaken (rowAt t dark) (r .0), every-true entryTaken (rowAt t light) (r .1)) (_, refl)
 
   pub step-exactly : Accepted (stepSays j t room) ↔ StepTaken j t room
   step-exactly = (step-only, step-given)
