@@ -1,28 +1,33 @@
--- Start is accepted exactly on document 01's conditions, and so is step (`start-exactly`, `step-exactly`). Assumes nothing.
-use mathlib.Core.Path.{_≡_, refl, sym, subst}
+-- Start is accepted exactly on document 01's conditions, and so are step and search (`start-exactly`, `step-exactly`, `search-exactly`). Assumes nothing.
+use mathlib.Core.Path.{_≡_, refl, sym, _∙_, subst}
 use mathlib.Core.Logic.{_↔_}
 use mathlib.Core.Bool.{Bool, true, false, _&&_, cond}
 use mathlib.Core.List.{List, [], _∷_}
 use Prim.Native.Nat.{ℕ, _*_, _/_, _%_, _≤_, _<_}
 use native.Mathlib.Nat.{mod-lt, div-lt-iff-lt-mul}
 use native.Mathlib.Omega.{arith}
+use lib.Dec.{leb}
 use lib.Ieee.{Float}
 use lib.ListN.{length}
+use borrow.Author.Tests.{leb-true, le-leb}
 use Rattle.limits.specs.Answers.{Said, value, refused}
 use Rattle.limits.specs.Taken.{entryTaken, every}
+use Rattle.limits.specs.Each.{Each, F32}
 use Rattle.limits.proofs.HueCount.{both, hue-count}
-use Rattle.limits.proofs.Checks.{AllPass, all-pass, said}
+use Rattle.limits.proofs.Checks.{check, AllPass, all-pass, said}
 use Rattle.limits.proofs.Lists.{each-true, every-true}
 use Rattle.gamut.specs.Table.{levelsIn, rowAt}
 use Rattle.gamut.proofs.Table.{levelled, table-taken}
+use Rattle.placement_rules.specs.Placing.{workNeeded}
 use Rattle.search_rules.specs.declared.Settings.{Settings}
 use Rattle.search_rules.specs.declared.Job.{Job}
-use Rattle.search_rules.specs.Job.{begun, startChecked, startSays, qualifies, movedOn, afterPair, pairBest, searched, stepChecked, stepSays}
+use Rattle.search_rules.specs.Job.{begun, startChecked, startSays, qualifies, movedOn, afterPair, pairBest, searched, stepChecked, stepSays, stepsFrom, searchSays}
 use Rattle.search_rules.specs.Runs.{FarApart}
 use Rattle.search_rules.specs.Accepted.{Accepted, EachTaken, StartTaken, Unbroken, StepTaken}
 use Rattle.search_rules.proofs.Apart.{far-apart, qualified}
 use Rattle.search_rules.proofs.Checking.{start-checks, step-checks, step-passed, step-passes}
 use Rattle.search_rules.proofs.Unbroken.{count-taken, unbroken-exactly}
+use Rattle.search_rules.proofs.Rows.{Good}
 
 -- ---- start
 module _ (s : Settings) (t : List Float) where
@@ -45,6 +50,34 @@ module _ (s : Settings) (t : List Float) where
 
   pub start-exactly : Accepted (startSays s t) ↔ StartTaken s t
   start-exactly = (start-only, λ (h : StartTaken s t). (begun s (levelsIn t), start-given h))
+
+  -- the table of an accepted start, where its entries are f32
+  pub good-table : StartTaken s t → Each F32 t → Good t
+  good-table h f32 = record {
+    levels-taken = table-taken t (record { long = h .whole-levels; some-level = h .levels .0; few-levels = h .levels .1 });
+    entries-taken = every-true entryTaken t (h .entries);
+    entries-f32 = f32;
+  }
+
+  -- ---- search: a start, and number 8
+  module _ (room : ℕ) where
+    abbrev done : Said Job
+    done = value (stepsFrom (levelsIn t * levelsIn t) (begun s (levelsIn t)) t room)
+
+    pub search-only : Accepted (searchSays s t room) → StartTaken s t × (workNeeded 720 ≤ room)
+    unfolding searchSays startChecked startSays
+    search-only a =
+        let f = all-pass (start-checks s t) (cond (leb (workNeeded 720) room) done (refused 8)) (a .0) (a .1) in
+        let g = all-pass (check (leb (workNeeded 720) room) 8 ∷ []) done (a .0) (f .1) in
+        (start-only (begun s (levelsIn t), said (start-checks s t) (value (begun s (levelsIn t))) (f .0)), leb-true (workNeeded 720) room (g .0 .0))
+
+    pub search-given : StartTaken s t → workNeeded 720 ≤ room → searchSays s t room ≡ done
+    unfolding searchSays
+    search-given h r = start-passing h (cond (leb (workNeeded 720) room) done (refused 8)) ∙ said (check (leb (workNeeded 720) room) 8 ∷ []) done (le-leb (workNeeded 720) room r, tt)
+
+    pub search-exactly : Accepted (searchSays s t room) ↔ (StartTaken s t × (workNeeded 720 ≤ room))
+    search-exactly =
+        (search-only, λ (h : StartTaken s t × (workNeeded 720 ≤ room)). (stepsFrom (levelsIn t * levelsIn t) (begun s (levelsIn t)) t room, search-given (h .0) (h .1)))
 
 -- ---- step
 module _ (j : Job) (t : List Float) (room : ℕ) where

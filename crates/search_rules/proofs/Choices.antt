@@ -1,24 +1,17 @@
 -- A choice after one more step is one from before it, or stands at the pair of that step (`by-place`). Assumes nothing.
-use mathlib.Core.Path.{_≡_, sym, ap, _∙_}
+use mathlib.Core.Path.{_≡_}
 use mathlib.Core.Logic.{inl, inr}
 use mathlib.Core.List.{List}
 use Prim.Native.Nat.{ℕ, suc, _+_, _*_, _/_, _%_, _≤_, _<_}
-use native.Mathlib.Nat.{mul-add-div-right, mul-add-mod-self-right, mod-eq-of-lt, div-eq-of-lt, add-zero}
 use native.Mathlib.Omega.{arith}
 use lib.Ieee.{Float}
 use Rattle.halving.proofs.Least.{below-or-not}
 use Rattle.gamut.specs.Table.{levelsIn}
 use Rattle.search_rules.specs.declared.Settings.{Settings}
 use Rattle.search_rules.specs.Runs.{Choice}
+use Rattle.search_rules.proofs.Positions.{place-of}
 
 -- ---- a choice at n + 1 is one at n, or stands at the pair of position n
-place-of : (m d l n : ℕ) → l < m → d * m + l ≡ n → (n / m ≡ d) × (n % m ≡ l)
-place-of m d l n h e =
-    let M : 0 < m = omega arith in (
-      ap (λ (x : ℕ). x / m) (sym e) ∙ mul-add-div-right M d l ∙ ap (λ (x : ℕ). d + x) (div-eq-of-lt h) ∙ add-zero d,
-      ap (λ (x : ℕ). x % m) (sym e) ∙ mul-add-mod-self-right d m l ∙ mod-eq-of-lt h,
-    )
-
 module _ (t : List Float) (s : Settings) (n : ℕ) where
   -- one step later it is still gone through
   abbrev pub later : Choice t s n → Choice t s (suc n)

@@ -11,7 +11,7 @@ use lib.Dec.{leb}
 use lib.Ieee.{Float, le}
 use lib.ListN.{length, getD, replicate}
 use borrow.Author.Tests.{le-leb}
-use Rattle.limits.specs.Answers.{Said, value, refused}
+use Rattle.limits.specs.Answers.{Said, value}
 use Rattle.limits.specs.Taken.{f32Of}
 use Rattle.limits.proofs.HueCount.{hue-count}
 use Rattle.limits.proofs.Tests.{joined}
@@ -28,7 +28,7 @@ use Rattle.search_rules.specs.declared.Settings.{Settings}
 use Rattle.search_rules.specs.declared.Best.{Best}
 use Rattle.search_rules.specs.declared.Best.the-variants.{Found}
 use Rattle.search_rules.specs.declared.Job.{Job}
-use Rattle.search_rules.specs.Job.{begun, startChecked, startSays, bestHeld, handed, huesHeld, unbroken, qualifies, floorOf, beats, movedOn, replaced, afterPair, pairBest, searched, stepChecked, stepSays, jobAfter, stepsFrom, searchSays}
+use Rattle.search_rules.specs.Job.{begun, startSays, bestHeld, handed, huesHeld, unbroken, qualifies, floorOf, beats, movedOn, replaced, afterPair, pairBest, searched, stepChecked, stepSays, jobAfter, stepsFrom, searchSays}
 use Rattle.search_rules.specs.Runs.{start, step, run, since, unstarted, noted, historyFrom, history, OverOneTable, Lent, steps, wholeSearch}
 use Rattle.search_rules.specs.Accepted.{StartTaken}
 use Rattle.search_rules.proofs.Checking.{step-checks, step-passes}
@@ -36,7 +36,7 @@ use Rattle.search_rules.proofs.Unbroken.{sound, unbroken-by, count-take
 use Rattle.search_rules.proofs.Floor.{BestF32, floor-f32, floor-from, floor-taken, chroma-plain, thirty-five, at-most-200}
 use Rattle.search_rules.proofs.Rows.{Good, shape, long, rows-f32, pair-says}
 use Rattle.search_rules.proofs.Kept.{starts-held}
-use Rattle.search_rules.proofs.Accepted.{start-passing, start-given}
+use Rattle.search_rules.proofs.Accepted.{start-given, search-given}
 
 -- ---- sixteen hues of which k are placed
 zeros-held : (n : ℕ) → huesHeld 0 (replicate n 0) ≡ true
@@ -203,11 +203,8 @@ module _ (t : List Float) (good : Good t) (work : List ℕ) (room : workNeeded 7
 
     -- and leave what `search` says
     pub search-is-run : (j : Job) → searchSays s t q ≡ value (run (wholeSearch s t work) j)
-    unfolding run searchSays
-    search-is-run j = begin-with (value (stepsFrom (levelsIn t * levelsIn t) (begun s (levelsIn t)) t q)) ∙ ap value (sym after)
+    unfolding run
+    search-is-run j = search-given s t q startable room ∙ ap value (sym after)
       where
         after : run (steps (levelsIn t * levelsIn t) t work) (jobAfter j (startSays s t)) ≡ stepsFrom (levelsIn t * levelsIn t) (begun s (levelsIn t)) t q
         after = subst (λ (said : Said Job). run (steps (levelsIn t * levelsIn t) t work) (jobAfter j said) ≡ stepsFrom (levelsIn t * levelsIn t) (begun s (levelsIn t)) t q) (sym (start-given s t startable)) (from-start .1 .1)
-
-        begin-with : (x : Said Job) → startChecked s t (cond (leb (workNeeded 720) q) x (refused 8)) ≡ x
-        begin-with x = start-passing s t startable (cond (leb (workNeeded 720) q) x (refused 8)) ∙ ap (λ (b : Bool). cond b x (refused 8)) (le-leb (workNeeded 720) q room)

@@ -1,3 +1,4 @@
+pub mod Positions
 pub mod Apart
 pub mod Checking
 pub mod Unbroken
@@ -9,3 +10,4 @@ pub mod Runs
 pub mod Accepted
 pub mod Goes
 pub mod Example
+pub mod Loops

@@ -1,3 +1,4 @@
 pub mod Job
 pub mod Runs
 pub mod Accepted
+pub mod Loops
