@@ -27,10 +27,10 @@ pub record Handed : Type 0 where
 abbrev pub handed : ℕ → List ℕ → List ℕ → List Float → Handed
 handed n hues levels chroma = record { number = n; hues = hues; levels = levels; chroma = chroma }
 
--- a best with its hues: 0 with all of it, 255 where there is none, with the levels and the chroma as before
+-- a best with its hues: 0 with all of it, 255 where there is none, with zeros for hues and the levels and the chroma as before
 abbrev pub bestHands : search.Best → List ℕ → List ℕ → List Float → Handed
 bestHands (Found c d l) hues levels chroma = handed 0 hues (d ∷ l ∷ []) (c ∷ [])
-bestHands None hues levels chroma = handed 255 hues levels chroma
+bestHands None hues levels chroma = handed 255 (replicate 16 0) levels chroma
 
 -- after a search that says this: the best of its job, or document 01's number of the refusal with all as before
 abbrev pub searchHands : Said Job → List ℕ → List ℕ → List Float → Handed

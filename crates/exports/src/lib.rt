@@ -108,10 +108,13 @@ pub extern "C" fn tengcuvo_search(
     match answer {
         search::Answer::Refused(why) => why.number() as u32,
         search::Answer::Accepted => {
-            *hues = given;
             match best {
-                Best::None => NO_CHROMA,
+                Best::None => {
+                    *hues = [0u16; 16];
+                    NO_CHROMA
+                }
                 Best::Found(reached, dark, light) => {
+                    *hues = given;
                     *levels = [dark, light];
                     *chroma = [reached];
                     0

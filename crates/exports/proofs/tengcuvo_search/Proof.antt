@@ -62,8 +62,8 @@ same-length-2 c = search needs
 
 returns-2 : tie.Need-returns-2
 returns-2 c =
-    let call = c .before .before .before .before .before .before .before .before .search in
-    (accepted-gives {b = None} _ _ _ (c .enum-told2 .given .1) (said (call .result .job) (c .before .before .enum-told .given .1) (call .ensures .0 .says)), call .ensures .1)
+    let call = c .before .before .before .before .before .before .before .before .before .search in
+    (accepted-gives {b = None} _ _ _ (c .before .enum-told2 .given .1) (said (call .result .job) (c .before .before .before .enum-told .given .1) (call .ensures .0 .says)), call .ensures .1)
 
 same-length-3 : tie.Need-same-length-3
 same-length-3 c = search needs
