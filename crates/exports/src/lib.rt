@@ -138,9 +138,9 @@ fn hexes_of(colors: [Srgb8; 32]) -> [u32; 32]
     hexes
 }
 
-// The back-off of a design from a chroma: gives 0 with the first chroma that passes and its colours as 0xRRGGBB; 240 and the
-// number of the last finding, or 240 alone where no chroma was tried, with zeros for colours and `passed` as before; or the
-// number of a refusal, with both as before.
+// The back-off of this one design from a chroma, its colours clipped to the gamut of sRGB and measured there, whatever table was
+// searched: gives 0 with the first chroma that passes and its colours as 0xRRGGBB; 240 and the number of the last finding, or 240
+// alone where no chroma was tried, with zeros for colours and `passed` as before; or the number of a refusal, with both as before.
 #[no_mangle]
 pub extern "C" fn tengcuvo_back_off(
     k: usize,

@@ -1,5 +1,5 @@
-// The table of what a panel can show: for each lightness and hue the greatest chroma in gamut. `Gamut` and `max_chroma` of
-// xtask/src/palette.rs, with lent directions and one row filled at a call.
+// The table of what a panel can show: for each lightness and hue the chroma that 40 halvings over the gamut test of sRGB end at.
+// `Gamut` and `max_chroma` of xtask/src/palette.rs, with lent directions and one row filled at a call.
 use limits::Refusal;
 ghost use mathlib.Core.Path.{_≡_};
 ghost use Prim.Native.Nat.{_≤_};
@@ -7,7 +7,8 @@ ghost use lib.ListN.{length};
 ghost use Rattle.gamut.specs.Gamut.{levelOf, maxChroma, fillSaid, fillSays, rowAfter, rowOf};
 ghost use Rattle.gamut.specs.Table.{tableTaken};
 
-// The shape of a table: rows of 720 entries, one for each level, lent as one slice.
+// The shape of a table: rows of 720 entries, one for each level, lent as one slice. The calls take the slice itself; the type is where
+// the table constants stand.
 pub struct Gamut {
     // how many levels it has
     pub levels: usize,
@@ -25,7 +26,7 @@ impl Gamut {
     // The chroma up to which is looked.
     pub const C_PROBE: f32 = 200.0;
 
-    // The lightness of a level.
+    // The lightness of a level. Nothing is refused: any number of half units above the lowest level has a lightness.
     pub fn l_of(li: u16) -> f32
         ensures { λ r. ⌜ r ≡ levelOf li ⌝ }
     {
@@ -50,8 +51,8 @@ pub enum Filling {
     Refused(Refusal),
 }
 
-// The greatest chroma in gamut at lightness l in the direction (cos, sin), as 40 halvings from 0 to 200 find it. A round whose
-// midpoint is an end and moves nothing is the last.
+// The chroma at lightness l in the direction (cos, sin) that 40 halvings from 0 to 200 end at, or 200 where that is in gamut. More may
+// be in gamut beyond a part that is not. A round whose midpoint is an end and moves nothing is the last.
 pub fn max_chroma(l: f32, cos: f32, sin: f32) -> f32
     ensures { λ r. ⌜ r ≡ maxChroma l cos sin ⌝ }
 {

@@ -1,4 +1,4 @@
--- What n halvings leave between lo and hi, by the patterns p ≤ q of two f32 that are not negative. With e the greatest distance of neighbours between them, in units of
+-- What n halvings leave between lo and hi, by the patterns p ≤ q of two f32 that are not negative and below 2 ^ 126 (so that their sum is no infinity). With e the greatest distance of neighbours between them, in units of
 -- 2 ^ -149, what is left, w, has w * 2 ^ n + e ≤ (what there was) + 2 ^ n * e (`width`). With g the least distance of neighbours, and less than (n + 2) * g between lo and hi,
 -- n halvings leave them equal or neighbouring (`closed`). Assumes nothing.
 use mathlib.Core.Path.{_≡_, refl, sym, ap, _∙_, subst}

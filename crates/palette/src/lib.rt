@@ -1,5 +1,6 @@
 // Palettes: derivation, validation and back-off. `derive` and `back_off` of xtask/src/palette.rs, `Palette::new` and `validate`
-// of crates/lcr-core/src/palette.rs, with lent directions.
+// of crates/lcr-core/src/palette.rs, with lent directions. Colours are brought into the gamut of sRGB and measured there, whatever
+// table their levels and hues were searched in.
 use gamut::Gamut;
 use limits::Checked;
 use limits::Refusal;
@@ -188,7 +189,7 @@ fn colors_of(design: Design, chroma: f32, cos: &[f32], sin: &[f32]) -> [Srgb8; 3
     colors
 }
 
-// Derives a palette: dark hues, then light ones.
+// Derives a palette: dark hues, then light ones, each colour clipped to the gamut of sRGB, so that it may have less chroma than asked.
 pub fn derive(design: Design, chroma: f32, cos: &[f32], sin: &[f32]) -> Palette
     ensures { λ r. ⌜ (derivationSaid (r .answer) (r .colors) ≡ derivationSays design chroma (now (cos .entry)) (now (sin .entry))) × (r .colors ≡ colorsBeside (derivationSays design chroma (now (cos .entry)) (now (sin .entry)))) ⌝ }
 {
@@ -341,7 +342,8 @@ fn lower_from(design: Design, chroma: f32, cos: &[f32], sin: &[f32]) -> BackedOf
     }
 }
 
-// The largest chroma at or below the one asked for, in steps of 0.05, whose palette has no finding.
+// The first chroma from the one asked for down, in steps of 0.05, at which the palette of this one design has no finding, as sRGB
+// shows it. It is no limit: another design may pass at a greater chroma.
 pub fn back_off(design: Design, chroma: f32, cos: &[f32], sin: &[f32]) -> BackedOff
     ensures { λ r. ⌜ (backOffSaid (r .answer) ≡ backOffSays design chroma (now (cos .entry)) (now (sin .entry))) × (r .colors ≡ colorsAfter design (now (cos .entry)) (now (sin .entry)) (backOffSays design chroma (now (cos .entry)) (now (sin .entry)))) ⌝ }
 {
