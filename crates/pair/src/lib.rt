@@ -28,12 +28,12 @@ fn check(a: &[f32], b: &[f32], floor: f32, k: usize, step: usize, room: usize) -
     ensures { λ r. ⌜ checkSaid r ≡ rowsChecked k step floor (now (a .entry) ∷ now (b .entry) ∷ []) room (value tt) ⌝ }
 {
     if a.len() != b.len() {
-        return placement::check(&a[0..0], floor, k, step, room);
+        return placement_checks::check(&a[0..0], floor, k, step, room);
     }
-    let second = placement::check(b, floor, k, step, 2160);
+    let second = placement_checks::check(b, floor, k, step, 2160);
     match second {
         Checked::Wrong(why) => Checked::Wrong(why),
-        Checked::Fine => placement::check(a, floor, k, step, room),
+        Checked::Fine => placement_checks::check(a, floor, k, step, room),
     }
 }
 

@@ -1,29 +1,14 @@
-// k hues on a ring, at a chroma: `feasible` and `place_from` of xtask/src/palette.rs, and the step for k.
+// k hues on a ring, at a chroma: `feasible` and `place_from` of xtask/src/palette.rs.
 use limits::Checked;
-use limits::Refusal;
 pub use placement_rules::Answer;
 pub use placement_rules::Placement;
-pub use placement_rules::Stepping;
 ghost use mathlib.Core.Path.{_≡_};
-ghost use mathlib.Core.Bool.{_&&_};
 ghost use Prim.Native.Nat.{ℕ, _+_, _%_, _≤_, _<_};
-ghost use lib.Dec.{leb};
 ghost use lib.ListN.{length};
-ghost use Rattle.limits.specs.Answers.{value, refused};
-ghost use Rattle.limits.specs.Refusals.{checkSaid};
+ghost use Rattle.limits.specs.Answers.{refused};
 ghost use Rattle.placement_rules.specs.Ring.{nowhere, reduced, fromStart, placement};
-ghost use Rattle.placement_rules.specs.Placing.{allowedAt, checked, placementSays, huesBeside, answers, isPlaced, stepSaid, stepSays};
+ghost use Rattle.placement_rules.specs.Placing.{allowedAt, placementSays, huesBeside, answers, isPlaced};
 ghost use Rattle.placement.specs.Inner.{Asked, Stands, Filled, LapAsked, Gives};
-
-// How far apart k hues must be, in half degrees.
-pub fn step_for(k: usize) -> Stepping
-    ensures { λ r. ⌜ stepSaid r ≡ stepSays k ⌝ }
-{
-    if limits::takes_hue_count(k) {
-        return Stepping::Is((600 + (k - 1)) / k + 1);
-    }
-    Stepping::Declined(Refusal::HueCount)
-}
 
 // Nothing is placed.
 fn nowhere() -> Placement
@@ -33,39 +18,6 @@ fn nowhere() -> Placement
         answer: Answer::Nowhere,
         hues: [0u16; 16],
     }
-}
-
-// Whether x is a number from 1 to most.
-fn between(x: usize, most: usize) -> bool
-    ensures { λ r. ⌜ r ≡ (leb 1 x && leb x most) ⌝ }
-{
-    1 <= x && x <= most
-}
-
-// The first refusal that applies to a placement, of 1, 3, 4, 5, 7 and 8.
-pub fn check(m: &[f32], c: f32, k: usize, step: usize, room: usize) -> Checked
-    ensures { λ r. ⌜ checkSaid r ≡ checked k step c (now (m .entry)) room (value tt) ⌝ }
-{
-    let n = m.len();
-    if !limits::takes_hue_count(k) {
-        return Checked::Wrong(Refusal::HueCount);
-    }
-    if !limits::takes_chroma(c) {
-        return Checked::Wrong(Refusal::Chroma);
-    }
-    if !between(n, 720) {
-        return Checked::Wrong(Refusal::RingLength);
-    }
-    if !between(step, n) {
-        return Checked::Wrong(Refusal::Spacing);
-    }
-    if !limits::takes_entries(m) {
-        return Checked::Wrong(Refusal::Entry);
-    }
-    if room < 3 * n {
-        return Checked::Wrong(Refusal::WorkBuffer);
-    }
-    Checked::Fine
 }
 
 // Fills one lap of the table of earliest allowed indices, from its top, by the earliest allowed index above it, 65535 if there
@@ -176,7 +128,7 @@ pub fn feasible(m: &[f32], c: f32, k: usize, step: usize, work: &mut [u16]) -> P
     ensures { λ r. ⌜ (answers (r .answer) (r .hues) ≡ placementSays k step c (now (m .entry)) (length (now (work .entry)))) × (r .hues ≡ huesBeside (placementSays k step c (now (m .entry)) (length (now (work .entry))))) ⌝ }
     ensures { λ r. ⌜ ((w : ℕ) → placementSays k step c (now (m .entry)) (length (now (work .entry))) ≡ refused w → now (work .exit) ≡ now (work .entry)) ⌝ }
 {
-    let checked = check(m, c, k, step, work.len());
+    let checked = placement_checks::check(m, c, k, step, work.len());
     match checked {
         Checked::Wrong(why) => Placement {
             answer: Answer::Refused(why),

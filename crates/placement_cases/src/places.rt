@@ -5,11 +5,11 @@ use case_words::rubbish;
 use case_words::size_at;
 use case_words::word_at;
 use placement::Answer;
-use placement::Stepping;
+use placement_checks::Stepping;
 
 // Whether the step for a hue count is the one that is expected, or is refused with the number that is.
 pub fn same_step(words: [u32; 24]) -> bool {
-    match placement::step_for(size_at(words, 0)) {
+    match placement_checks::step_for(size_at(words, 0)) {
         Stepping::Is(step) => word_at(words, 1) == 0 && step == size_at(words, 2),
         Stepping::Declined(why) => word_at(words, 1) == why.number() as u32
             && word_at(words, 2) == 0,

@@ -1,4 +1,3 @@
 pub mod Checking
-pub mod Held
 pub mod Going
 pub mod Giving

@@ -3,7 +3,7 @@ use gamut::Gamut;
 use limits::Checked;
 use limits::Refusal;
 use pair::Chosen;
-use placement::Stepping;
+use placement_checks::Stepping;
 pub use search_rules::Answer;
 pub use search_rules::Best;
 pub use search_rules::Job;
@@ -14,11 +14,11 @@ ghost use mathlib.Core.Bool.{true};
 ghost use Prim.Native.Nat.{ℕ, _<_};
 ghost use lib.ListN.{length};
 ghost use Rattle.limits.specs.Answers.{value, refused};
-ghost use Rattle.limits.specs.Refusals.{number, checkSaid};
+ghost use Rattle.limits.specs.Refusals.{number};
 ghost use Rattle.limits.specs.Taken.{hueCountTaken};
 ghost use Rattle.placement_rules.specs.Placing.{stepFor};
 ghost use Rattle.search_rules.specs.declared.Job.{Job};
-ghost use Rattle.search_rules.specs.Job.{begun, startChecked, startSays, bestHeld, handed, huesHeld, unbroken, qualifies, floorOf, beats, movedOn, replaced, searched, stepChecked, stepSays, stepsFrom, searchSays, Gives};
+ghost use Rattle.search_rules.specs.Job.{begun, startSays, qualifies, floorOf, beats, movedOn, replaced, searched, stepSays, stepsFrom, searchSays, Gives};
 ghost use Rattle.search.specs.Inner.{pairAnswers, pairHues, pairGiven, Stepped};
 
 // A call that is refused, with the job as it was.
@@ -41,25 +41,6 @@ fn accept(job: Job) -> Outcome
     }
 }
 
-// The first refusal of a start, of 1, 2, 6 and 7 over the whole table.
-fn check_start(settings: Settings, table: &[f32]) -> Checked
-    ensures { λ r. ⌜ checkSaid r ≡ startChecked settings (now (table .entry)) (value tt) ⌝ }
-{
-    if !limits::takes_hue_count(settings.k) {
-        return Checked::Wrong(Refusal::HueCount);
-    }
-    if !limits::takes_gap(settings.gap) {
-        return Checked::Wrong(Refusal::Gap);
-    }
-    if !gamut::takes_table(table) {
-        return Checked::Wrong(Refusal::TableLength);
-    }
-    if !limits::takes_entries(table) {
-        return Checked::Wrong(Refusal::Entry);
-    }
-    Checked::Fine
-}
-
 // The job at the beginning of a search.
 fn begin(settings: Settings, levels: usize) -> Job
     ensures { λ r. ⌜ r ≡ begun settings levels ⌝ }
@@ -77,88 +58,11 @@ fn begin(settings: Settings, levels: usize) -> Job
 pub fn start(settings: Settings, table: &[f32], job: Job) -> Outcome
     ensures { λ r. ⌜ Gives r job (startSays settings (now (table .entry))) ⌝ }
 {
-    let checked = check_start(settings, table);
+    let checked = search_checks::check_start(settings, table);
     match checked {
         Checked::Wrong(why) => refuse(why, job),
         Checked::Fine => accept(begin(settings, table.len() / Gamut::HUES)),
     }
-}
-
-// Whether the first n hues are at most 719 and the others zero.
-fn holds_hues(n: usize, hues: [u16; 16]) -> bool
-    ensures { λ r. ⌜ r ≡ huesHeld n hues ⌝ }
-{
-    let mut i: usize = 0;
-    while i < 16 {
-        let most: u16 = if i < n { 719 } else { 0 };
-        if most < hues[i] {
-            return false;
-        }
-        i += 1;
-    }
-    true
-}
-
-// Whether a best so far is in its ranges, in a table of so many levels.
-fn holds_best(levels: usize, best: Best) -> bool
-    ensures { λ r. ⌜ r ≡ bestHeld levels best ⌝ }
-{
-    match best {
-        Best::None => true,
-        Best::Found(c, d, l) => 35.0 <= c && c <= 200.0 && d < levels && l < levels,
-    }
-}
-
-// How many hues stand for something beside a best so far.
-fn handed(k: usize, best: Best) -> usize
-    ensures { λ r. ⌜ r ≡ handed k best ⌝ }
-{
-    match best {
-        Best::None => 0,
-        Best::Found(_, _, _) => k,
-    }
-}
-
-// Whether no field of a job is out of its range.
-fn is_unbroken(job: Job) -> bool
-    ensures { λ r. ⌜ r ≡ unbroken job ⌝ }
-{
-    let k = job.settings.k;
-    let gap = job.settings.gap;
-    let levels = job.levels;
-    let position = job.position;
-    let best = job.best;
-    let hues = job.hues;
-    if !(limits::takes_hue_count(k) && limits::takes_gap(gap)) {
-        return false;
-    }
-    if !(1 <= levels && levels <= Gamut::LEVELS) {
-        return false;
-    }
-    if levels * levels < position {
-        return false;
-    }
-    holds_best(levels, best) && holds_hues(handed(k, best), hues)
-}
-
-// The first refusal of a step before it reads a row, of 15, 14, 6 and 8.
-fn check_step(job: Job, length: usize, room: usize) -> Checked
-    ensures { λ r. ⌜ checkSaid r ≡ stepChecked job length room (value tt) ⌝ }
-{
-    if !is_unbroken(job) {
-        return Checked::Wrong(Refusal::Broken);
-    }
-    let levels = job.levels;
-    if levels * levels <= job.position {
-        return Checked::Wrong(Refusal::Finished);
-    }
-    if length != levels * Gamut::HUES {
-        return Checked::Wrong(Refusal::TableLength);
-    }
-    if room < 3 * Gamut::HUES {
-        return Checked::Wrong(Refusal::WorkBuffer);
-    }
-    Checked::Fine
 }
 
 // Whether a dark and a light level are at least gap + 1 apart.
@@ -223,7 +127,7 @@ fn step_of(k: usize) -> usize
     requires { ⌜ hueCountTaken k ≡ true ⌝ }
     ensures { λ r. ⌜ r ≡ stepFor k ⌝ }
 {
-    let stepping = placement::step_for(k);
+    let stepping = placement_checks::step_for(k);
     match stepping {
         Stepping::Is(step) => step,
         Stepping::Declined(_) => 0,
@@ -281,7 +185,7 @@ pub fn step(table: &[f32], work: &mut [u16], job: Job) -> Outcome
     ensures { λ r. ⌜ Gives r job (stepSays job (now (table .entry)) (length (now (work .entry)))) ⌝ }
     ensures { λ r. ⌜ ((w : ℕ) → stepSays job (now (table .entry)) (length (now (work .entry))) ≡ refused w → now (work .exit) ≡ now (work .entry)) ⌝ }
 {
-    let checked = check_step(job, table.len(), work.len());
+    let checked = search_checks::check_step(job, table.len(), work.len());
     match checked {
         Checked::Wrong(why) => refuse(why, job),
         Checked::Fine => {
@@ -311,7 +215,7 @@ pub fn search(settings: Settings, table: &[f32], work: &mut [u16], job: Job) -> 
     ensures { λ r. ⌜ Gives r job (searchSays settings (now (table .entry)) (length (now (work .entry)))) ⌝ }
     ensures { λ r. ⌜ ((w : ℕ) → searchSays settings (now (table .entry)) (length (now (work .entry))) ≡ refused w → now (work .exit) ≡ now (work .entry)) ⌝ }
 {
-    let checked = check_start(settings, table);
+    let checked = search_checks::check_start(settings, table);
     match checked {
         Checked::Wrong(why) => refuse(why, job),
         Checked::Fine => {

@@ -11,7 +11,7 @@ use Rattle.placement.proofs.feasible.Statement.{statement}
 use Rattle.placement.proofs.feasible.Tie as tie
 use Rattle.placement.proofs.feasible.Reads as reads
 use Rattle.placement.proofs.feasible.Lts as lts
-use Rattle.placement.proofs.check.Reads as check-reads
+use Rattle.placement_checks.proofs.check.Reads as check-reads
 use Rattle.placement.proofs.place.Reads as place-reads
 
 check-requires : tie.Need-check-requires

@@ -1,4 +1,4 @@
--- `search::check_step` meets its contract, by its four tests in the order of the refusals. Assumes nothing.
+-- `search_checks::check_step` meets its contract, by its four tests in the order of the refusals. Assumes nothing.
 use mathlib.Core.Path.{_≡_, sym, _∙_}
 use mathlib.Core.Bool.{true, false}
 use Prim.Native.Nat.{ℕ, _*_, _≤_, _<_}
@@ -10,8 +10,8 @@ use Rattle.placement_rules.specs.Placing.{workNeeded}
 use Rattle.search_rules.specs.declared.Job.{Job}
 use Rattle.search_rules.specs.Job.{unbroken, stepChecked}
 use Rattle.search_rules.proofs.Unbroken.{sound, square}
-use Rattle.search.proofs.check_step.Statement.{statement}
-use Rattle.search.proofs.check_step.Tie as tie
+use Rattle.search_checks.proofs.check_step.Statement.{statement}
+use Rattle.search_checks.proofs.check_step.Tie as tie
 
 module _ (j : Job) (size room : ℕ) where
   abbrev said : Said (Unit {0})

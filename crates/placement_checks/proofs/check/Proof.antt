@@ -1,4 +1,4 @@
--- `placement::check` meets its contract, by its six tests in the order of the refusals. Assumes nothing.
+-- `placement_checks::check` meets its contract, by its six tests in the order of the refusals. Assumes nothing.
 use mathlib.Core.Path.{_≡_, sym, _∙_}
 use mathlib.Core.Bool.{true, false, _&&_}
 use mathlib.Core.List.{List}
@@ -12,8 +12,8 @@ use borrow.Author.Tests.{le-leb, lt-leb, not-true, not-false}
 use Rattle.limits.specs.Answers.{Said, value, refused}
 use Rattle.limits.specs.Taken.{hueCountTaken, chromaTaken, entryTaken, every}
 use Rattle.placement_rules.specs.Placing.{workNeeded, checked}
-use Rattle.placement.proofs.check.Statement.{statement}
-use Rattle.placement.proofs.check.Tie as tie
+use Rattle.placement_checks.proofs.check.Statement.{statement}
+use Rattle.placement_checks.proofs.check.Tie as tie
 
 module _ (k step : ℕ) (c : Float) (row : List Float) (room : ℕ) where
   abbrev said : Said (Unit {0})

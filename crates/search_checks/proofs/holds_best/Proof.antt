@@ -1,4 +1,4 @@
--- `search::holds_best` meets its contract: its four tests are those of the specification. Assumes nothing.
+-- `search_checks::holds_best` meets its contract: its four tests are those of the specification. Assumes nothing.
 use mathlib.Core.Path.{_≡_, sym, ap, _∙_}
 use mathlib.Core.Bool.{Bool, _&&_, and-assoc}
 use mathlib.Core.Logic.{⊎-elim}
@@ -8,8 +8,8 @@ use borrow.Author.Needs.{needs}
 use Rattle.limits.specs.Taken.{f32Of}
 use Rattle.limits.proofs.Tests.{passed-on, stopped}
 use Rattle.search_rules.specs.Job.{bestHeld}
-use Rattle.search.proofs.holds_best.Statement.{statement}
-use Rattle.search.proofs.holds_best.Tie as tie
+use Rattle.search_checks.proofs.holds_best.Statement.{statement}
+use Rattle.search_checks.proofs.holds_best.Tie as tie
 
 enum-told : tie.Need-enum-told
 enum-told c = search needs

@@ -1,4 +1,4 @@
--- `placement::step_for` meets its contract. Assumes nothing.
+-- `placement_checks::step_for` meets its contract. Assumes nothing.
 use mathlib.Core.Path.{_≡_, sym, _∙_}
 use mathlib.Core.Bool.{true}
 use Prim.Native.Nat.{ℕ, _+_, _-_, _/_, _≤_}
@@ -8,8 +8,8 @@ use borrow.Author.Needs.{needs}
 use Rattle.limits.specs.Taken.{hueCountTaken}
 use Rattle.limits.proofs.HueCount.{hue-count}
 use Rattle.placement_rules.specs.Placing.{stepFor, stepSays}
-use Rattle.placement.proofs.step_for.Statement.{statement}
-use Rattle.placement.proofs.step_for.Tie as tie
+use Rattle.placement_checks.proofs.step_for.Statement.{statement}
+use Rattle.placement_checks.proofs.step_for.Tie as tie
 
 taken : (c : tie.Then1) → hueCountTaken (c .before .before .args .k) ≡ true
 taken c = sym (c .before .takes-hue-count .ensures) ∙ c .if1 .taken

@@ -1,7 +1,7 @@
--- `placement::between` meets its contract, by its two tests. Assumes nothing.
+-- `placement_checks::between` meets its contract, by its two tests. Assumes nothing.
 use borrow.Author.Tests.{le-leb, lt-leb}
-use Rattle.placement.proofs.between.Statement.{statement}
-use Rattle.placement.proofs.between.Tie as tie
+use Rattle.placement_checks.proofs.between.Statement.{statement}
+use Rattle.placement_checks.proofs.between.Tie as tie
 
 returns : tie.Need-returns
 returns c = simp (le-leb _ _ (c .if1 .taken))

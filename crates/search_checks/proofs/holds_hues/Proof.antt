@@ -1,4 +1,4 @@
--- `search::holds_hues` meets its contract: the loop keeps what is left of the hues, with what is left of their number, and counts to 16. Assumes nothing.
+-- `search_checks::holds_hues` meets its contract: the loop keeps what is left of the hues, with what is left of their number, and counts to 16. Assumes nothing.
 use mathlib.Core.Path.{_≡_, sym, ap, _∙_, subst}
 use mathlib.Core.Logic.{⊎-elim}
 use Prim.Native.Nat.{ℕ, _+_, _-_, _≤_, _<_}
@@ -6,9 +6,9 @@ use native.Mathlib.Nat.{sub-zero}
 use native.Mathlib.Omega.{arith}
 use lib.ListN.{length, drop, getD}
 use Rattle.search_rules.specs.Job.{huesHeld}
-use Rattle.search.proofs.Held.{first-next, first-fails, rest-next, rest-fails, none-left}
-use Rattle.search.proofs.holds_hues.Statement.{statement}
-use Rattle.search.proofs.holds_hues.Tie as tie
+use Rattle.search_checks.proofs.Held.{first-next, first-fails, rest-next, rest-fails, none-left}
+use Rattle.search_checks.proofs.holds_hues.Statement.{statement}
+use Rattle.search_checks.proofs.holds_hues.Tie as tie
 
 abbrev Inv-loop : tie.InvT-loop
 Inv-loop n hues i₀ i = (i ≤ 16) × (huesHeld (n - i) (drop i hues) ≡ huesHeld n hues)

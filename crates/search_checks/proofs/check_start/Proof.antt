@@ -1,4 +1,4 @@
--- `search::check_start` meets its contract, by its four tests in the order of the refusals. Assumes nothing.
+-- `search_checks::check_start` meets its contract, by its four tests in the order of the refusals. Assumes nothing.
 use mathlib.Core.Path.{_≡_, sym, _∙_}
 use mathlib.Core.Bool.{true, false}
 use mathlib.Core.List.{List}
@@ -10,8 +10,8 @@ use Rattle.limits.specs.Taken.{hueCountTaken, entryTaken, every}
 use Rattle.gamut.specs.Table.{tableTaken}
 use Rattle.search_rules.specs.declared.Settings.{Settings}
 use Rattle.search_rules.specs.Job.{gapStarts, startChecked}
-use Rattle.search.proofs.check_start.Statement.{statement}
-use Rattle.search.proofs.check_start.Tie as tie
+use Rattle.search_checks.proofs.check_start.Statement.{statement}
+use Rattle.search_checks.proofs.check_start.Tie as tie
 
 module _ (s : Settings) (table : List Float) where
   abbrev said : Said (Unit {0})

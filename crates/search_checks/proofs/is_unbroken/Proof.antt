@@ -1,4 +1,4 @@
--- `search::is_unbroken` meets its contract: its tests are those of the specification, two by two. Assumes nothing.
+-- `search_checks::is_unbroken` meets its contract: its tests are those of the specification, two by two. Assumes nothing.
 use mathlib.Core.Path.{_≡_, refl, sym, ap, _∙_}
 use mathlib.Core.Bool.{Bool, true, false, _&&_, and-assoc}
 use mathlib.Core.Logic.{⊎-elim}
@@ -12,8 +12,8 @@ use Rattle.limits.specs.Taken.{hueCountTaken}
 use Rattle.limits.proofs.HueCount.{both}
 use Rattle.search_rules.specs.declared.Job.{Job}
 use Rattle.search_rules.specs.Job.{gapHeld, bestHeld, handed, huesHeld, unbroken}
-use Rattle.search.proofs.is_unbroken.Statement.{statement}
-use Rattle.search.proofs.is_unbroken.Tie as tie
+use Rattle.search_checks.proofs.is_unbroken.Statement.{statement}
+use Rattle.search_checks.proofs.is_unbroken.Tie as tie
 
 -- the tests of a job, two by two
 abbrev grouped : Job → Bool

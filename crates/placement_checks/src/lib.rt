@@ -1,0 +1,53 @@
+// What a placement refuses, numbers 1, 3, 4, 5, 7 and 8, and the step for k.
+use limits::Checked;
+use limits::Refusal;
+pub use placement_rules::Stepping;
+ghost use mathlib.Core.Path.{_≡_};
+ghost use mathlib.Core.Bool.{_&&_};
+ghost use lib.Dec.{leb};
+ghost use Rattle.limits.specs.Answers.{value};
+ghost use Rattle.limits.specs.Refusals.{checkSaid};
+ghost use Rattle.placement_rules.specs.Placing.{checked, stepSaid, stepSays};
+
+// How far apart k hues must be, in half degrees.
+pub fn step_for(k: usize) -> Stepping
+    ensures { λ r. ⌜ stepSaid r ≡ stepSays k ⌝ }
+{
+    if limits::takes_hue_count(k) {
+        return Stepping::Is((600 + (k - 1)) / k + 1);
+    }
+    Stepping::Declined(Refusal::HueCount)
+}
+
+// Whether x is a number from 1 to most.
+fn between(x: usize, most: usize) -> bool
+    ensures { λ r. ⌜ r ≡ (leb 1 x && leb x most) ⌝ }
+{
+    1 <= x && x <= most
+}
+
+// The first refusal that applies to a placement, of 1, 3, 4, 5, 7 and 8.
+pub fn check(m: &[f32], c: f32, k: usize, step: usize, room: usize) -> Checked
+    ensures { λ r. ⌜ checkSaid r ≡ checked k step c (now (m .entry)) room (value tt) ⌝ }
+{
+    let n = m.len();
+    if !limits::takes_hue_count(k) {
+        return Checked::Wrong(Refusal::HueCount);
+    }
+    if !limits::takes_chroma(c) {
+        return Checked::Wrong(Refusal::Chroma);
+    }
+    if !between(n, 720) {
+        return Checked::Wrong(Refusal::RingLength);
+    }
+    if !between(step, n) {
+        return Checked::Wrong(Refusal::Spacing);
+    }
+    if !limits::takes_entries(m) {
+        return Checked::Wrong(Refusal::Entry);
+    }
+    if room < 3 * n {
+        return Checked::Wrong(Refusal::WorkBuffer);
+    }
+    Checked::Fine
+}
