@@ -9,7 +9,7 @@ use Rattle.search_rules.specs.declared.Best as search
 use Rattle.search_rules.specs.declared.Best.the-variants.{None, Found}
 use Rattle.search_rules.specs.declared.Job.{Job}
 use Rattle.srgb.specs.Parts.{toHex}
-use Rattle.palette.specs.declared.Design.{Design}
+use Rattle.palette_checks.specs.declared.Design.{Design}
 use Rattle.palette.specs.Derivation.{colorsOf}
 use Rattle.palette.specs.BackOff.{Ending, passes, lastly}
 

@@ -10,8 +10,8 @@ use Rattle.limits.specs.declared.Refusal.{Refusal}
 use Rattle.limits.proofs.Checks.{Check, check, passed, fine, wrong}
 use Rattle.limits.specs.declared.Checked.{Checked}
 use Rattle.limits.specs.declared.Checked.the-variants.{Fine, Wrong}
-use Rattle.palette.specs.declared.Design.{Design}
-use Rattle.palette.specs.Derivation.{huesTaken, levelsTaken, designChecked}
+use Rattle.palette_checks.specs.declared.Design.{Design}
+use Rattle.palette_checks.specs.Designs.{huesTaken, levelsTaken, designChecked}
 use Rattle.palette.specs.Inner.{Ready}
 
 -- its checks in the order of their numbers

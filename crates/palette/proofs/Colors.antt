@@ -11,7 +11,7 @@ use lib.Seq.{length-take-le, getD-append-add, getD-take, ext-getD}
 use Rattle.halving.proofs.Least.{below-or-not}
 use Rattle.srgb.specs.declared.Srgb8.{Srgb8}
 use Rattle.gamut.specs.Gamut.{levelOf}
-use Rattle.palette.specs.declared.Design.{Design}
+use Rattle.palette_checks.specs.declared.Design.{Design}
 use Rattle.palette.specs.Derivation.{black, shown, levelColors, colorsOf}
 use Rattle.palette.specs.Inner.{colorAt}
 

@@ -8,10 +8,10 @@ use lib.ListN.{length, getD}
 use borrow.Author.Tests.{leb-true}
 use Rattle.limits.proofs.Directions.{directions-long}
 use Rattle.limits.proofs.HueCount.{both, hue-count}
-use Rattle.palette.specs.declared.Design.{Design}
-use Rattle.palette.specs.Derivation.{levelsTaken}
+use Rattle.palette_checks.specs.declared.Design.{Design}
+use Rattle.palette_checks.specs.Designs.{levelsTaken}
 use Rattle.palette.specs.Inner.{Ready}
-use Rattle.palette.proofs.Hues.{small}
+use Rattle.palette_checks.proofs.Hues.{small}
 
 module _ {d : Design} {cs ss : List Float} (r : Ready d cs ss) where
   pub few-hues : d .k ≤ 16

@@ -9,10 +9,11 @@ use Rattle.limits.specs.Answers.{Said, value, refused}
 use Rattle.limits.specs.Refusals.{number}
 use Rattle.limits.specs.Taken.{f32Of}
 use Rattle.srgb.specs.declared.Srgb8.{Srgb8}
-use Rattle.palette.specs.declared.Design.{Design}
+use Rattle.palette_checks.specs.declared.Design.{Design}
 use Rattle.palette.specs.declared.BackOff as back-off
 use Rattle.palette.specs.declared.BackOff.the-variants as back-off-of
-use Rattle.palette.specs.Derivation.{black, colorsOf, designChecked}
+use Rattle.palette_checks.specs.Designs.{designChecked}
+use Rattle.palette.specs.Derivation.{black, colorsOf}
 use Rattle.palette.specs.Validation.{Judgement, passed, finding, judged, findingNumber}
 
 -- ---- chromas tried

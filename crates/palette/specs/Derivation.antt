@@ -1,39 +1,17 @@
--- Document 01, "Palette": derivation, and the refusals that it shares with back-off. Definitions only.
-use Prim.Native.Nat.{ℕ, zero, suc, _+_, _-_}
-use mathlib.Core.Bool.{Bool, true, _&&_, cond}
+-- Document 01, "Palette": derivation. Definitions only.
+use Prim.Native.Nat.{ℕ, _+_, _-_}
 use mathlib.Core.List.{List, [], _∷_, _++_}
-use lib.Dec.{leb}
 use lib.Ieee.{Float, nan}
 use lib.ListN.{getD, take, replicate}
 use Rattle.limits.specs.Answers.{Said, value, refused}
 use Rattle.limits.specs.Refusals.{number}
-use Rattle.limits.specs.Taken.{hueCountTaken, chromaTaken, directionsTaken}
 use Rattle.srgb.specs.declared.Srgb8.{Srgb8}
 use Rattle.clipping.specs.Clip.{clippedOf}
 use Rattle.gamut.specs.Gamut.{levelOf}
-use Rattle.palette.specs.declared.Design.{Design}
+use Rattle.palette_checks.specs.declared.Design.{Design}
+use Rattle.palette_checks.specs.Designs.{designChecked}
 use Rattle.palette.specs.declared.Derivation.{Derivation}
 use Rattle.palette.specs.declared.Derivation.the-variants.{Derived, Refused}
-
--- ---- refusals
--- number 12: one of the first k hue indices above 719; the others may be anything
-unfoldable pub huesTaken : ℕ → List ℕ → Bool
-huesTaken zero hs = true
-huesTaken (suc n) [] = true
-huesTaken (suc n) (h ∷ hs) = leb h 719 && huesTaken n hs
-
--- number 11: a level index above 168
-unfoldable pub levelsTaken : Design → Bool
-levelsTaken d = leb (d .dark) 168 && leb (d .light) 168
-
--- "derivation and back-off 1, 3, 9, 11, 12", the lowest, in front of what a good call says
-unfoldable pub designChecked : {A : Type 0} → Design → Float → List Float → List Float → Said A → Said A
-designChecked d c cs ss good =
-    cond (hueCountTaken (d .k))
-    (cond (chromaTaken c)
-    (cond (directionsTaken cs ss)
-    (cond (levelsTaken d)
-    (cond (huesTaken (d .k) (d .hues)) good (refused 12)) (refused 11)) (refused 9)) (refused 3)) (refused 1)
 
 -- ---- colours
 abbrev pub black : Srgb8

@@ -7,8 +7,9 @@ use lib.Ieee.{Float, nan}
 use lib.ListN.{length, getD}
 use Rattle.limits.specs.Taken.{directionsTaken, hueCountTaken}
 use Rattle.srgb.specs.declared.Srgb8.{Srgb8}
-use Rattle.palette.specs.declared.Design.{Design}
-use Rattle.palette.specs.Derivation.{black, levelsTaken, huesTaken, colorsOf}
+use Rattle.palette_checks.specs.declared.Design.{Design}
+use Rattle.palette_checks.specs.Designs.{levelsTaken, huesTaken}
+use Rattle.palette.specs.Derivation.{black, colorsOf}
 
 -- a design that is taken, with directions that are taken
 pub record Ready (d : Design) (cs ss : List Float) : Type 0 where

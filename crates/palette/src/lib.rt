@@ -5,6 +5,7 @@ use gamut::Gamut;
 use limits::Checked;
 use limits::Refusal;
 use metrics::Metrics;
+pub use palette_checks::Design;
 use srgb::Srgb8;
 ghost use mathlib.Core.Path.{_≡_};
 ghost use mathlib.Core.Bool.{true};
@@ -12,26 +13,13 @@ ghost use Prim.Native.Nat.{_≤_};
 ghost use lib.ListN.{length, replicate};
 ghost use Rattle.limits.specs.Answers.{value};
 ghost use Rattle.limits.specs.Taken.{chromaTaken, directionsTaken};
-ghost use Rattle.limits.specs.Refusals.{checkSaid};
 ghost use Rattle.hue.specs.Hue.{colorHue};
 ghost use Rattle.gamut.specs.Gamut.{levelOf};
 ghost use Rattle.metrics.specs.Metrics.{lightnessOf, chromaIn, metricsOf};
-ghost use Rattle.palette.specs.Derivation.{huesTaken, designChecked, black, shown, colorsOf, derivationSays, derivationSaid, colorsBeside};
+ghost use Rattle.palette.specs.Derivation.{black, shown, colorsOf, derivationSays, derivationSaid, colorsBeside};
 ghost use Rattle.palette.specs.Validation.{findings, firstOf, validationSays, verdictSaid, validationSaid, findingNumber};
 ghost use Rattle.palette.specs.BackOff.{tried, judgeAt, endOf, backOffSays, backOffSaid, colorsAfter};
 ghost use Rattle.palette.specs.Inner.{Ready, Measurable, Measured, Placed, colorAt};
-
-// What a palette is derived from, but for its chroma.
-pub struct Design {
-    // how many hues
-    pub k: usize,
-    // the index of the dark level
-    pub dark: usize,
-    // the index of the light level
-    pub light: usize,
-    // the hue indices; those after the first k may be anything
-    pub hues: [u16; 16],
-}
 
 // Whether a palette was derived.
 pub enum Derivation {
@@ -105,44 +93,6 @@ impl Finding {
     }
 }
 
-// Whether the first k of sixteen hue indices are at most 719.
-fn takes_hues(k: usize, hues: [u16; 16]) -> bool
-    ensures { λ r. ⌜ r ≡ huesTaken k hues ⌝ }
-{
-    let mut i: usize = 0;
-    while i < 16 {
-        if i < k && 719 < hues[i] {
-            return false;
-        }
-        i += 1;
-    }
-    true
-}
-
-// The first refusal of 1, 3, 9, 11 and 12.
-fn check_design(design: Design, chroma: f32, cos: &[f32], sin: &[f32]) -> Checked
-    ensures { λ r. ⌜ checkSaid r ≡ designChecked design chroma (now (cos .entry)) (now (sin .entry)) (value tt) ⌝ }
-{
-    let k = design.k;
-    let hues = design.hues;
-    if !limits::takes_hue_count(k) {
-        return Checked::Wrong(Refusal::HueCount);
-    }
-    if !limits::takes_chroma(chroma) {
-        return Checked::Wrong(Refusal::Chroma);
-    }
-    if !limits::takes_directions(cos, sin) {
-        return Checked::Wrong(Refusal::Directions);
-    }
-    if !(design.dark < Gamut::LEVELS && design.light < Gamut::LEVELS) {
-        return Checked::Wrong(Refusal::LevelIndex);
-    }
-    if !takes_hues(k, hues) {
-        return Checked::Wrong(Refusal::HueIndex);
-    }
-    Checked::Fine
-}
-
 // The colour of a level and a hue, by their indices.
 fn color_of(level: usize, hue: u16, chroma: f32, cos: &[f32], sin: &[f32]) -> Srgb8
     requires { ⌜ (level ≤ 168) × (hue ≤ 719) × (length (now cos) ≡ 720) × (length (now sin) ≡ 720) ⌝ }
@@ -193,7 +143,7 @@ fn colors_of(design: Design, chroma: f32, cos: &[f32], sin: &[f32]) -> [Srgb8; 3
 pub fn derive(design: Design, chroma: f32, cos: &[f32], sin: &[f32]) -> Palette
     ensures { λ r. ⌜ (derivationSaid (r .answer) (r .colors) ≡ derivationSays design chroma (now (cos .entry)) (now (sin .entry))) × (r .colors ≡ colorsBeside (derivationSays design chroma (now (cos .entry)) (now (sin .entry)))) ⌝ }
 {
-    let checked = check_design(design, chroma, cos, sin);
+    let checked = palette_checks::check_design(design, chroma, cos, sin);
     match checked {
         Checked::Wrong(why) => Palette {
             answer: Derivation::Refused(why),
@@ -347,7 +297,7 @@ fn lower_from(design: Design, chroma: f32, cos: &[f32], sin: &[f32]) -> BackedOf
 pub fn back_off(design: Design, chroma: f32, cos: &[f32], sin: &[f32]) -> BackedOff
     ensures { λ r. ⌜ (backOffSaid (r .answer) ≡ backOffSays design chroma (now (cos .entry)) (now (sin .entry))) × (r .colors ≡ colorsAfter design (now (cos .entry)) (now (sin .entry)) (backOffSays design chroma (now (cos .entry)) (now (sin .entry)))) ⌝ }
 {
-    let checked = check_design(design, chroma, cos, sin);
+    let checked = palette_checks::check_design(design, chroma, cos, sin);
     match checked {
         Checked::Wrong(why) => BackedOff {
             answer: BackOff::Refused(why),

@@ -7,7 +7,7 @@ use borrow.Author.Needs.{needs}
 use Rattle.limits.specs.Answers.{Said, value, refused}
 use Rattle.srgb.specs.Parts.{toHex}
 use Rattle.palette.specs.declared.BackOff.{BackOff}
-use Rattle.palette.specs.declared.Design.{Design}
+use Rattle.palette_checks.specs.declared.Design.{Design}
 use Rattle.palette.specs.BackOff.{Ending, passes, lastly, backOffSaid, colorsAfter}
 use Rattle.exports.specs.Numbers.{backed, backOffHands}
 use Rattle.exports.proofs.tengcuvo_back_off.Statement.{statement}

@@ -9,7 +9,7 @@ use lib.Ieee.{Float, binary32, toBits, ofBits, round}
 use borrow.Author.Needs.{needs}
 use Rattle.limits.specs.Answers.{value}
 use Rattle.srgb.specs.declared.Srgb8.{Srgb8}
-use Rattle.palette.specs.declared.Design.{Design}
+use Rattle.palette_checks.specs.declared.Design.{Design}
 use Rattle.metrics.specs.declared.Metrics.{Metrics}
 use Rattle.palette.specs.Derivation.{colorsOf}
 use Rattle.metrics.specs.Metrics.{metricsOf}

@@ -1,4 +1,4 @@
--- `palette::takes_hues` meets its contract: the loop keeps what is left of the hues, with what is left of their number, and counts to 16. Assumes nothing.
+-- `palette_checks::takes_hues` meets its contract: the loop keeps what is left of the hues, with what is left of their number, and counts to 16. Assumes nothing.
 use mathlib.Core.Path.{_≡_, sym, ap, _∙_}
 use mathlib.Core.Logic.{⊎-elim}
 use Prim.Native.Nat.{ℕ, _+_, _-_, _≤_}
@@ -6,10 +6,10 @@ use native.Mathlib.Nat.{sub-zero}
 use native.Mathlib.Omega.{arith}
 use lib.ListN.{drop, getD}
 use borrow.Author.Tests.{ltb-true, ltb-false}
-use Rattle.palette.specs.Derivation.{huesTaken}
-use Rattle.palette.proofs.Hues.{next, fails, none-asked, none-left}
-use Rattle.palette.proofs.takes_hues.Statement.{statement}
-use Rattle.palette.proofs.takes_hues.Tie as tie
+use Rattle.palette_checks.specs.Designs.{huesTaken}
+use Rattle.palette_checks.proofs.Hues.{next, fails, none-asked, none-left}
+use Rattle.palette_checks.proofs.takes_hues.Statement.{statement}
+use Rattle.palette_checks.proofs.takes_hues.Tie as tie
 
 abbrev Inv-loop : tie.InvT-loop
 Inv-loop k hues i₀ i = (i ≤ 16) × (huesTaken (k - i) (drop i hues) ≡ huesTaken k hues)

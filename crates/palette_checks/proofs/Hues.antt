@@ -11,7 +11,7 @@ use lib.ListN.{length, getD, drop, drop-of-length-le}
 use lib.Seq.{drop-cons}
 use borrow.Author.Tests.{leb-true, le-leb, lt-leb}
 use Rattle.limits.proofs.HueCount.{both}
-use Rattle.palette.specs.Derivation.{huesTaken}
+use Rattle.palette_checks.specs.Designs.{huesTaken}
 
 -- what is left at an index
 abbrev left : ℕ → List ℕ → ℕ → Bool

@@ -1,4 +1,4 @@
--- `palette::check_design` meets its contract, by its five tests in the order of the refusals. Assumes nothing.
+-- `palette_checks::check_design` meets its contract, by its five tests in the order of the refusals. Assumes nothing.
 use mathlib.Core.Path.{_≡_, sym, _∙_}
 use mathlib.Core.Bool.{true, false}
 use mathlib.Core.List.{List}
@@ -10,10 +10,10 @@ use borrow.Author.Needs.{needs}
 use borrow.Author.Tests.{le-ltb, le-leb, lt-leb, not-true, not-false}
 use Rattle.limits.specs.Answers.{Said, value, refused}
 use Rattle.limits.specs.Taken.{hueCountTaken, chromaTaken, directionsTaken}
-use Rattle.palette.specs.declared.Design.{Design}
-use Rattle.palette.specs.Derivation.{huesTaken, levelsTaken, designChecked}
-use Rattle.palette.proofs.check_design.Statement.{statement}
-use Rattle.palette.proofs.check_design.Tie as tie
+use Rattle.palette_checks.specs.declared.Design.{Design}
+use Rattle.palette_checks.specs.Designs.{huesTaken, levelsTaken, designChecked}
+use Rattle.palette_checks.proofs.check_design.Statement.{statement}
+use Rattle.palette_checks.proofs.check_design.Tie as tie
 
 module _ (d : Design) (c : Float) (cs ss : List Float) where
   abbrev said : Said (Unit {0})
