@@ -3,14 +3,14 @@ use mathlib.Core.Path.{_≡_, refl, sym, ap, _∙_}
 use mathlib.Core.Bool.{Bool, true, false}
 use mathlib.Core.List.{List, [], _∷_, _++_, append-nil}
 use Prim.Native.Nat.{ℕ, suc, _+_, _-_, _≤_, _<_, min}
-use native.Mathlib.Nat.{add-zero, min-eq-left}
+use native.Mathlib.Nat.{add-zero, zero-add, sub-zero, min-eq-left}
 use native.Mathlib.Numerals.{add-one}
 use native.Mathlib.Omega.{arith}
 use lib.Dec.{leb, ltb}
-use lib.ListN.{length, take, drop, getD, set, length-append, length-set, drop-of-length-le}
-use lib.Seq.{take-nil, take-all, take-at, take-suc-set, drop-set-lt, set-out, append-snoc, length-take-le, paste, paste-zero, paste-suc}
+use lib.ListN.{length, take, drop, getD, set, length-append, length-drop, length-set, drop-of-length-le}
+use lib.Seq.{take-nil, take-all, take-at, take-append-seam, take-suc-set, drop-set-lt, set-out, append-snoc, length-take-le, paste, paste-zero, paste-suc}
 use borrow.Author.Tests.{leb-true, leb-false, ltb-true, ltb-false}
-use Rattle.text.specs.Put.{putIn, PutIn, Put}
+use Rattle.text.specs.Put.{putIn, PutIn, over, Laid, Put}
 
 -- nothing is put
 put-nil : (text : List ℕ) (at : ℕ) → putIn text at [] ≡ text
@@ -135,3 +135,31 @@ put-fits {a} {b} {at} {r} {xs} h p =
       ends = e;
       holds = ap (take r) (p .holds ∙ rw t) ∙ take-at (take at a ++ xs) (drop (at + length xs) a) r (omega (arith, length-append (take at a) xs));
     }
+
+-- ---- laid over the front: nothing, how long it is, and what its front is
+pub over-nil : {A : Type 0} (before : List A) → over [] before ≡ before
+unfolding over
+over-nil before = refl
+
+pub over-length : {A : Type 0} (front before : List A) → length front ≤ length before → length (over front before) ≡ length before
+unfolding over
+over-length front before h = omega (arith, length-append front (drop (length front) before), length-drop (length front) before)
+
+pub over-front : {A : Type 0} (front before : List A) → take (length front) (over front before) ≡ front
+unfolding over
+over-front front before = take-append-seam front (drop (length front) before)
+
+-- bytes put at the start of a text with room for them are laid over its front
+put-over : (text bytes : List ℕ) → length bytes ≤ length text → putIn text 0 bytes ≡ over bytes text
+unfolding putIn over
+put-over text bytes h = rw (sub-zero, take-all (length text) bytes h, zero-add)
+
+pub puts-over : {a b : List ℕ} {r : ℕ} {xs : List ℕ} → length xs ≤ length a → PutIn a 0 xs b r → Laid a xs b r
+puts-over {a} {b} {r} {xs} h p = record { holds = p .holds ∙ put-over a xs h; counts = let e = p .ends in omega arith }
+
+-- and so are bytes put after them
+pub laid-more : {a b c : List ℕ} {m r : ℕ} {xs ys : List ℕ} → length (xs ++ ys) ≤ length a → Laid a xs b m → PutIn b m ys c r → Laid a (xs ++ ys) c r
+laid-more {a} {b} {c} {m} {r} {xs} {ys} h l q =
+    let k : length xs ≤ length a = omega (arith, length-append xs ys) in
+    let p : PutIn a 0 xs b m = record { holds = l .holds ∙ sym (put-over a xs k); ends = let e = l .counts in omega arith } in
+    puts-over h (puts-both p q)
