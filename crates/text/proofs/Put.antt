@@ -10,7 +10,7 @@ use lib.Dec.{leb, ltb}
 use lib.ListN.{length, take, drop, getD, set, length-append, length-drop, length-set, drop-of-length-le}
 use lib.Seq.{take-nil, take-all, take-at, take-append-seam, take-suc-set, drop-set-lt, set-out, append-snoc, length-take-le, paste, paste-zero, paste-suc}
 use borrow.Author.Tests.{leb-true, leb-false, ltb-true, ltb-false}
-use Rattle.text.specs.Put.{putIn, PutIn, over, Laid, Put}
+use Rattle.text.specs.Put.{putIn, PutIn, over, Laid}
 
 -- nothing is put
 put-nil : (text : List ℕ) (at : ℕ) → putIn text at [] ≡ text
@@ -50,7 +50,7 @@ put-cons text at b bytes = go (ltb at (length text)) refl
         put-past text at (b ∷ bytes) h ∙ sym (ap (λ (l : List ℕ). putIn l (at + 1) bytes) (set-out text at b h) ∙ put-past text (at + 1) bytes (omega arith))
 
 -- a text keeps its length
-put-length : (text : List ℕ) (at : ℕ) (bytes : List ℕ) → length (putIn text at bytes) ≡ length text
+pub put-length : (text : List ℕ) (at : ℕ) (bytes : List ℕ) → length (putIn text at bytes) ≡ length text
 put-length text at [] = ap length (put-nil text at)
 put-length text at (b ∷ bytes) = ap length (put-cons text at b bytes) ∙ put-length (set text at b) (at + 1) bytes ∙ length-set text at b
 
@@ -124,17 +124,13 @@ puts-both {a} {b} {c} {at} {m} {n} {xs} {ys} p q =
       ends = let f = q .ends in omega (arith, length-append xs ys);
     }
 
--- where there is room for all of them
-pub put-fits : {a b : List ℕ} {at r : ℕ} {xs : List ℕ} → at + length xs ≤ length a → PutIn a at xs b r → Put a at xs b r
+-- where there is room for all of them, the text up to their end is what stood before them, and they
+pub put-front : (text : List ℕ) (at : ℕ) (bytes : List ℕ) → at + length bytes ≤ length text → take (at + length bytes) (putIn text at bytes) ≡ take at text ++ bytes
 unfolding putIn
-put-fits {a} {b} {at} {r} {xs} h p =
-    let e : r ≡ at + length xs = p .ends ∙ min-eq-left h in
-    let t : take (length a - at) xs ≡ xs = take-all (length a - at) xs (omega arith) in
-    let l : length (take at a) ≡ at = length-take-le at a (omega arith) in
-    record {
-      ends = e;
-      holds = ap (take r) (p .holds ∙ rw t) ∙ take-at (take at a ++ xs) (drop (at + length xs) a) r (omega (arith, length-append (take at a) xs));
-    }
+put-front text at bytes h =
+    let t : take (length text - at) bytes ≡ bytes = take-all (length text - at) bytes (omega arith) in
+    let l : length (take at text) ≡ at = length-take-le at text (omega arith) in
+    rw t (take-at (take at text ++ bytes) (drop (at + length bytes) text) (at + length bytes) (omega (arith, length-append (take at text) bytes)))
 
 -- ---- laid over the front: nothing, how long it is, and what its front is
 pub over-nil : {A : Type 0} (before : List A) → over [] before ≡ before
@@ -163,3 +159,15 @@ laid-more {a} {b} {c} {m} {r} {xs} {ys} h l q =
     let k : length xs ≤ length a = omega (arith, length-append xs ys) in
     let p : PutIn a 0 xs b m = record { holds = l .holds ∙ sym (put-over a xs k); ends = let e = l .counts in omega arith } in
     puts-over h (puts-both p q)
+
+-- the front of a text over which bytes were laid is those bytes
+pub laid-front : {a b xs : List ℕ} {r : ℕ} → Laid a xs b r → take r b ≡ xs
+laid-front {a} {b} {xs} {r} l = ap (λ (k : ℕ). take k b) (l .counts) ∙ ap (take (length xs)) (l .holds) ∙ over-front xs a
+
+-- and it has at least as many bytes
+pub laid-within : {a b xs : List ℕ} {r : ℕ} → Laid a xs b r → r ≤ length b
+unfolding over
+laid-within {a} {b} {xs} {r} l =
+    let n = l .counts in
+    let m : length b ≡ length (xs ++ drop (length xs) a) = ap length (l .holds) in
+    omega (arith, length-append xs (drop (length xs) a))

@@ -25,8 +25,3 @@ over front before = front ++ drop (length front) before
 pub record Laid (before bytes after : List ℕ) (r : ℕ) : Type 0 where
   pub holds : after ≡ over bytes before
   pub counts : r ≡ length bytes
-
--- bytes put after the first `at` of a text, and r, where they end
-pub record Put (before : List ℕ) (at : ℕ) (bytes after : List ℕ) (r : ℕ) : Type 0 where
-  pub ends : r ≡ at + length bytes
-  pub holds : take r after ≡ take at before ++ bytes
