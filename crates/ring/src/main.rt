@@ -20,19 +20,12 @@ fn write_first(bytes: &[u8], n: usize) -> bool {
 }
 
 // Takes a piece of the input and writes the answers to the lines that end in it.
-fn take_piece(
-    piece: &[u8],
-    buffer: &mut [u8; 4096],
-    held: usize,
-    row: &mut [f32; 999],
-    work: &mut [u16; 2160],
-    out: &mut [u8; 65536],
-) -> State {
+fn take_piece(piece: &[u8], buffer: &mut [u8; 4096], held: usize, out: &mut [u8; 65536]) -> State {
     let mut count = held;
     let mut more = true;
     let mut at = 0;
     while more && at < piece.len() {
-        let progress = ring_lines::answer_piece(&piece[at..], buffer, count, row, work, out);
+        let progress = ring_lines::answer_piece(&piece[at..], buffer, count, out);
         more = write_first(out, progress.written);
         count = progress.held;
         at += progress.taken;
@@ -45,13 +38,7 @@ fn take_piece(
 }
 
 // Reads once, and takes what came.
-fn take_some(
-    held: usize,
-    buffer: &mut [u8; 4096],
-    row: &mut [f32; 999],
-    work: &mut [u16; 2160],
-    out: &mut [u8; 65536],
-) -> State {
+fn take_some(held: usize, buffer: &mut [u8; 4096], out: &mut [u8; 65536]) -> State {
     let mut piece = io::large_buffer();
     let got = libc::read(libc::STDIN_FILENO, &mut piece);
     if got <= 0 {
@@ -62,16 +49,11 @@ fn take_some(
         };
     }
     let n = io::count(got, &piece);
-    take_piece(&piece[..n], buffer, held, row, work, out)
+    take_piece(&piece[..n], buffer, held, out)
 }
 
 // Reads the input to its end. A proved loop ends, so it counts turns down from more than any input takes.
-fn take_all(
-    buffer: &mut [u8; 4096],
-    row: &mut [f32; 999],
-    work: &mut [u16; 2160],
-    out: &mut [u8; 65536],
-) -> State {
+fn take_all(buffer: &mut [u8; 4096], out: &mut [u8; 65536]) -> State {
     let mut state = State {
         held: 0,
         more: true,
@@ -79,27 +61,25 @@ fn take_all(
     };
     let mut turns = u64::MAX;
     while turns > 0 && state.more {
-        state = take_some(state.held, buffer, row, work, out);
+        state = take_some(state.held, buffer, out);
         turns -= 1;
     }
     state
 }
 
 // Answers the line whose newline is missing, if there is one.
-fn finish(buffer: &[u8; 4096], held: usize, row: &mut [f32; 999], work: &mut [u16; 2160]) {
+fn finish(buffer: &[u8; 4096], held: usize) {
     let mut text = [0u8; 64];
-    let n = ring_lines::answer_end(buffer, held, row, work, &mut text);
+    let n = ring_lines::answer_end(buffer, held, &mut text);
     io::write_all(libc::STDOUT_FILENO, &text[0..n]);
 }
 
 // Answers every line of the input.
 fn main() {
     let mut buffer = [0u8; 4096];
-    let mut row = [0.0f32; 999];
-    let mut work = [0u16; 2160];
     let mut out = [0u8; 65536];
-    let state = take_all(&mut buffer, &mut row, &mut work, &mut out);
+    let state = take_all(&mut buffer, &mut out);
     if state.ended {
-        finish(&buffer, state.held, &mut row, &mut work);
+        finish(&buffer, state.held);
     }
 }

@@ -9,9 +9,8 @@ ghost use lib.ListN.{length, take};
 ghost use Rattle.limits.specs.Answers.{refused};
 ghost use Rattle.limits.specs.Refusals.{number};
 ghost use Rattle.placement_rules.specs.Placing.{placementSays, answers};
-ghost use Rattle.text.specs.Put.{PutIn};
-ghost use Rattle.ring_answers.specs.Answers.{parted, answerText, answerBytes, answerOf};
-ghost use Rattle.ring_answers.specs.Promised.{Written};
+ghost use Rattle.text.specs.Put.{PutIn, Laid};
+ghost use Rattle.ring_answers.specs.Answers.{room, parted, answerText, answerBytes, answerOf};
 ghost use Rattle.ring_answers.specs.Inner.{indexAt, Says};
 
 // What is said to a line: a placement of k hues, none, or a refusal.
@@ -67,10 +66,10 @@ fn put_text(text: &mut [u8], k: usize, placement: Placement) -> usize
     }
 }
 
-// Writes an answer, with its newline, at the start of a text that is long enough, and gives its length.
+// Writes an answer, with its newline, over the front of a text that is long enough, and gives its length.
 fn write_answer(text: &mut [u8], k: usize, placement: Placement) -> usize
     requires { ⌜ 64 ≤ length (now text) ⌝ }
-    ensures { λ r. ⌜ Written (answerBytes k (answers (placement .answer) (placement .hues))) (now (text .exit)) r ⌝ }
+    ensures { λ r. ⌜ Laid (now (text .entry)) (answerBytes k (answers (placement .answer) (placement .hues))) (now (text .exit)) r ⌝ }
 {
     let end = put_text(text, k, placement);
     text::put_byte(text, end, b'\n')
@@ -87,47 +86,45 @@ fn malformed() -> Placement
 }
 
 // A placement on the ring of a row's first entries.
-fn place(row: &[f32], n: usize, c: f32, k: usize, step: usize, work: &mut [u16]) -> Placement
+fn place(row: &[f32], n: usize, c: f32, k: usize, step: usize) -> Placement
     requires { ⌜ n ≤ length (now row) ⌝ }
-    ensures { λ r. ⌜ answers (r .answer) (r .hues) ≡ placementSays k step c (take n (now (row .entry))) (length (now (work .entry))) ⌝ }
+    ensures { λ r. ⌜ answers (r .answer) (r .hues) ≡ placementSays k step c (take n (now (row .entry))) room ⌝ }
 {
-    placement::feasible(&row[0..n], c, k, step, work)
+    let mut work = [0u16; 2160];
+    placement::feasible(&row[0..n], c, k, step, &mut work)
 }
 
 // What is said to a line.
-fn said_to(line: &[u8], row: &mut [f32; 999], work: &mut [u16; 2160]) -> Saying
+fn said_to(line: &[u8]) -> Saying
     ensures { λ r. ⌜ Says (now (line .entry)) r ⌝ }
 {
-    let Reading::Asks { length, k, step, c } = ring_reading::read_line(line, row) else {
+    let asked = ring_reading::read_line(line);
+    let reading = asked.reading;
+    let Reading::Asks { length, k, step, c } = reading else {
         return Saying {
             k: 0,
             placement: malformed(),
         };
     };
+    let row = asked.row;
     Saying {
         k,
-        placement: place(row, length, c, k, step, work),
+        placement: place(&row, length, c, k, step),
     }
 }
 
-// Writes the answer to a line, with its newline, at the start of a text, and gives its length. The row and the work buffer are
-// left free.
-pub fn answer_line(
-    line: &[u8],
-    row: &mut [f32; 999],
-    work: &mut [u16; 2160],
-    text: &mut [u8; 64],
-) -> usize
-    ensures { λ r. ⌜ Written (answerOf (now (line .entry))) (now (text .exit)) r ⌝ }
+// Writes the answer to a line, with its newline, over the front of a text, and gives its length.
+pub fn answer_line(line: &[u8], text: &mut [u8; 64]) -> usize
+    ensures { λ r. ⌜ Laid (now (text .entry)) (answerOf (now (line .entry))) (now (text .exit)) r ⌝ }
 {
-    let said = said_to(line, row, work);
+    let said = said_to(line);
     let placement = said.placement;
     write_answer(text, said.k, placement)
 }
 
 // Writes the answer to a line of more than 4,096 bytes, which is malformed.
 pub fn answer_longer(text: &mut [u8; 64]) -> usize
-    ensures { λ r. ⌜ Written (answerBytes 0 (refused 17)) (now (text .exit)) r ⌝ }
+    ensures { λ r. ⌜ Laid (now (text .entry)) (answerBytes 0 (refused 17)) (now (text .exit)) r ⌝ }
 {
     write_answer(text, 0, malformed())
 }

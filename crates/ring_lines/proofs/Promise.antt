@@ -2,10 +2,12 @@
 use mathlib.Core.Path.{_≡_, sym, ap, _∙_}
 use mathlib.Core.List.{List, _++_, append-assoc}
 use Prim.Native.Nat.{ℕ}
-use lib.ListN.{take}
+use lib.ListN.{length, take}
+use Rattle.text.proofs.Put.{laid-front}
 use Rattle.ring_answers.specs.Answers.{answersOf}
-use Rattle.ring_lines.specs.Pieces.{Kept, keptIn, keptAfter, writtenFor, writtenAtEnd}
+use Rattle.ring_lines.specs.Pieces.{Kept, keptIn, keptAfter, writtenFor, writtenAtEnd, bufferAfter, takenOf}
 use Rattle.ring_lines.specs.Promised.{Calls, last, next}
+use Rattle.ring_lines.proofs.Keeping.{after-long, kept-after}
 use Rattle.ring_lines.proofs.Stream.{kept-both, written-both, whole-input}
 
 -- what is written from a kept line on
@@ -18,15 +20,20 @@ joined kept a b =
     sym (append-assoc (writtenFor kept a) (writtenFor (keptAfter kept a) b) (writtenAtEnd (keptAfter (keptAfter kept a) b)))
     ∙ rw (← written-both kept a b, ← kept-both kept a b)
 
-calls : {buffer input output : List ℕ} {held : ℕ} → Calls buffer held input output → output ≡ all (keptIn buffer held) input
+calls : {buffer input output : List ℕ} {held : ℕ} → length buffer ≡ 4096 → Calls buffer held input output → output ≡ all (keptIn buffer held) input
 unfolding all writtenFor keptAfter
-calls (last w) = w .holds
-calls (next {buffer} {buffer'} {piece} {out} {input} {output} {held} {r} t later) =
-    ap (λ (l : List ℕ). l ++ output) (t .writes)
-    ∙ ap (λ (l : List ℕ). writtenFor (keptIn buffer held) (take (r .taken) piece) ++ l) (calls later ∙ ap (λ (kept : Kept). all kept input) (t .keeps))
-    ∙ joined (keptIn buffer held) (take (r .taken) piece) input
+calls long (last w) = laid-front w
+calls long (next {buffer} {buffer'} {piece} {out} {out'} {input} {output} {held} {r} t later) =
+    let taken = takenOf (keptIn buffer held) piece in
+    let kept : keptIn buffer' (r .held) ≡ keptAfter (keptIn buffer held) taken
+    = ap (λ (l : List ℕ). keptIn l (r .held)) (t .keeps) ∙ ap (keptIn (bufferAfter buffer held taken)) (t .holds) ∙ kept-after buffer held taken long in
+    ap (λ (l : List ℕ). l ++ output) (laid-front (t .writes))
+    ∙ ap (λ (l : List ℕ). writtenFor (keptIn buffer held) taken ++ l)
+    (calls (ap length (t .keeps) ∙ after-long buffer held taken ∙ long) later ∙ ap (λ (k : Kept). all k input) kept)
+    ∙ joined (keptIn buffer held) taken input
+    ∙ ap (λ (n : ℕ). all (keptIn buffer held) (take n piece ++ input)) (sym (t .takes))
 
--- where nothing is held at first, whatever the buffer is
-pub whatever-the-pieces : {buffer input output : List ℕ} → Calls buffer 0 input output → output ≡ answersOf input
+-- where nothing is held at first, whatever a buffer of 4,096 bytes has in it
+pub whatever-the-pieces : {buffer input output : List ℕ} → length buffer ≡ 4096 → Calls buffer 0 input output → output ≡ answersOf input
 unfolding keptIn all
-whatever-the-pieces {buffer} {input} c = calls c ∙ whole-input input
+whatever-the-pieces {buffer} {input} long c = calls long c ∙ whole-input input

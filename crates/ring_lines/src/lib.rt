@@ -2,12 +2,10 @@
 ghost use mathlib.Core.Path.{_≡_};
 ghost use mathlib.Core.Bool.{cond};
 ghost use mathlib.Core.List.{[]};
-ghost use Prim.Native.Nat.{_+_, _≤_};
-ghost use lib.ListN.{length, take};
-ghost use Rattle.text.specs.Put.{Put};
-ghost use Rattle.ring_answers.specs.Promised.{Written};
-ghost use Rattle.ring_lines.specs.Pieces.{keep, keptIn, answerKept, writtenAtEnd};
-ghost use Rattle.ring_lines.specs.Promised.{Taken};
+ghost use lib.ListN.{length};
+ghost use Rattle.text.specs.Put.{PutIn, Laid};
+ghost use Rattle.ring_lines.specs.Pieces.{keptIn, answerKept, writtenAtEnd};
+ghost use Rattle.ring_lines.specs.Promised.{Held, Answered};
 
 // How far a piece was taken.
 pub struct Progress {
@@ -21,7 +19,7 @@ pub struct Progress {
 
 // Holds one more byte of a line, and gives how many are held.
 pub fn keep(buffer: &mut [u8; 4096], held: usize, byte: u8) -> usize
-    ensures { λ r. ⌜ keptIn (now (buffer .exit)) r ≡ keep byte (keptIn (now (buffer .entry)) held) ⌝ }
+    ensures { λ r. ⌜ Held (now (buffer .entry)) held byte (now (buffer .exit)) r ⌝ }
 {
     let next = text::put_byte(buffer, held, byte);
     if held < 4096 {
@@ -30,44 +28,31 @@ pub fn keep(buffer: &mut [u8; 4096], held: usize, byte: u8) -> usize
     4097
 }
 
-// The first bytes of a buffer.
-fn first(buffer: &[u8], n: usize) -> &[u8]
-    requires { ⌜ n ≤ length (now buffer) ⌝ }
-    ensures { λ r. ⌜ now r ≡ take n (now (buffer .entry)) ⌝ }
-{
-    &buffer[0..n]
-}
-
-// Writes the answer to the line that is held.
-pub fn answer_kept(
-    buffer: &[u8; 4096],
-    held: usize,
-    row: &mut [f32; 999],
-    work: &mut [u16; 2160],
-    text: &mut [u8; 64],
-) -> usize
-    ensures { λ r. ⌜ Written (answerKept (keptIn (now (buffer .entry)) held)) (now (text .exit)) r ⌝ }
+// Writes the answer to the line that is held over the front of a text, and gives its length.
+fn answer_held(buffer: &[u8], held: usize, text: &mut [u8; 64]) -> usize
+    requires { ⌜ length (now buffer) ≡ 4096 ⌝ }
+    ensures { λ r. ⌜ Laid (now (text .entry)) (answerKept (keptIn (now (buffer .entry)) held)) (now (text .exit)) r ⌝ }
 {
     if held <= 4096 {
-        return ring_answers::answer_line(first(buffer, held), row, work, text);
+        return ring_answers::answer_line(&buffer[0..held], text);
     }
     ring_answers::answer_longer(text)
 }
 
-// Writes the answer to the line that is held after the answers in `out`, and gives where it ends.
-fn put_answer(
-    buffer: &[u8; 4096],
-    held: usize,
-    row: &mut [f32; 999],
-    work: &mut [u16; 2160],
-    out: &mut [u8; 65536],
-    at: usize,
-) -> usize
-    requires { ⌜ at + 64 ≤ 65536 ⌝ }
-    ensures { λ r. ⌜ (r ≤ at + 64) × Put (now (out .entry)) at (answerKept (keptIn (now (buffer .entry)) held)) (now (out .exit)) r ⌝ }
+// Writes the answer to the line that is held over the front of a text, and gives its length.
+pub fn answer_kept(buffer: &[u8; 4096], held: usize, text: &mut [u8; 64]) -> usize
+    ensures { λ r. ⌜ Laid (now (text .entry)) (answerKept (keptIn (now (buffer .entry)) held)) (now (text .exit)) r ⌝ }
+{
+    answer_held(buffer, held, text)
+}
+
+// Puts the answer to the line that is held at a place of the answers, and gives the next place.
+fn put_answer(buffer: &[u8], held: usize, out: &mut [u8], at: usize) -> usize
+    requires { ⌜ length (now buffer) ≡ 4096 ⌝ }
+    ensures { λ r. ⌜ PutIn (now (out .entry)) at (answerKept (keptIn (now (buffer .entry)) held)) (now (out .exit)) r ⌝ }
 {
     let mut text = [0u8; 64];
-    let n = answer_kept(buffer, held, row, work, &mut text);
+    let n = answer_held(buffer, held, &mut text);
     text::put_bytes(out, at, &text[0..n])
 }
 
@@ -77,11 +62,9 @@ pub fn answer_piece(
     piece: &[u8],
     buffer: &mut [u8; 4096],
     held: usize,
-    row: &mut [f32; 999],
-    work: &mut [u16; 2160],
     out: &mut [u8; 65536],
 ) -> Progress
-    ensures { λ r. ⌜ Taken (keptIn (now (buffer .entry)) held) (now (piece .entry)) (now (buffer .exit)) (now (out .exit)) r ⌝ }
+    ensures { λ r. ⌜ Answered (now (buffer .entry)) held (now (piece .entry)) (now (out .entry)) (now (buffer .exit)) (now (out .exit)) r ⌝ }
 {
     let mut count = held;
     let mut at = 0;
@@ -89,7 +72,7 @@ pub fn answer_piece(
     while at < piece.len() && end <= 65472 {
         let byte = piece[at];
         if byte == b'\n' {
-            end = put_answer(buffer, count, row, work, out, end);
+            end = put_answer(buffer, count, out, end);
             count = 0;
         } else {
             count = keep(buffer, count, byte);
@@ -111,18 +94,12 @@ fn ends_empty(buffer: &[u8], held: usize) -> bool
     held == 0
 }
 
-// Writes the answer to the line that is held where the input ends, if there is one, and gives its length.
-pub fn answer_end(
-    buffer: &[u8; 4096],
-    held: usize,
-    row: &mut [f32; 999],
-    work: &mut [u16; 2160],
-    text: &mut [u8; 64],
-) -> usize
-    ensures { λ r. ⌜ Written (writtenAtEnd (keptIn (now (buffer .entry)) held)) (now (text .exit)) r ⌝ }
+// Writes the answer to the line that is held where the input ends, if there is one, over the front of a text, and gives its length.
+pub fn answer_end(buffer: &[u8; 4096], held: usize, text: &mut [u8; 64]) -> usize
+    ensures { λ r. ⌜ Laid (now (text .entry)) (writtenAtEnd (keptIn (now (buffer .entry)) held)) (now (text .exit)) r ⌝ }
 {
     if ends_empty(buffer, held) {
         return 0;
     }
-    answer_kept(buffer, held, row, work, text)
+    answer_kept(buffer, held, text)
 }

@@ -1,19 +1,18 @@
--- The entries of a line, read one after the other into a row. Assumes nothing.
+-- The entries of a line, read one after the other into a row of zeros. Assumes nothing.
 use mathlib.Core.Path.{_≡_, refl, sym, ap, _∙_}
-use mathlib.Core.Bool.{Bool, true, false}
 use mathlib.Core.List.{List, [], _∷_, _++_, append-assoc, append-nil}
 use mathlib.Core.Option.{Option, none, some}
 use Prim.Native.Nat.{ℕ, zero, suc, _+_, _-_, _≤_, _<_}
-use native.Mathlib.Nat.{not-suc-le-zero}
+use native.Mathlib.Nat.{not-suc-le-zero, sub-zero}
 use native.Mathlib.Numerals.{add-one}
 use native.Mathlib.Omega.{arith}
-use lib.Dec.{ltb}
 use lib.Ieee.{Float}
-use lib.ListN.{length, take, set}
-use lib.Seq.{take-suc-set}
-use borrow.Author.Tests.{ltb-true, ltb-false}
+use lib.ListN.{length, take, drop, set, length-set, length-replicate, take-append-drop}
+use lib.Seq.{take-suc-set, drop-set-lt, drop-drop, length-take-le}
 use Rattle.limits.specs.Taken.{f32Of}
-use Rattle.ring_reading.specs.Inner.{fieldsFrom, firstNumber, laterFields, entered, entriesOf, rowRead}
+use Rattle.text.specs.Put.{over}
+use Rattle.ring_reading.specs.Inner.{fieldsFrom, firstNumber, laterFields, entered, entriesOf}
+use Rattle.ring_reading.specs.Reads.{noRow}
 use Rattle.ring_reading.proofs.Places.{beyond, from}
 
 -- entries that were read before others
@@ -40,40 +39,71 @@ unfolding entriesOf
 entries-hit m n [] e = let z : _≡_ {A = Option ℕ} none (some n) = e in cc
 entries-hit m n (field ∷ fields) e = rw e
 
-module _ (whole : Option (List Float)) (count : ℕ) (row : List Float) (i : ℕ) (fields : List (List ℕ))
-    (inv : whole ≡ after (take i row) (entriesOf (count - i) fields)) where
-  -- a field that is no number, or none where one must be
-  pub read-fails : i < count → firstNumber fields ≡ none → none ≡ whole
-  read-fails h e = let u : 0 < count - i = omega arith in sym (inv ∙ ap (after (take i row)) (entries-miss (count - i) fields u e))
-
-  -- one more entry
-  pub read-next : (n : ℕ) (later : List (List ℕ)) → i < count → i < length row → firstNumber fields ≡ some n → laterFields fields ≡ later
-      → whole ≡ after (take (i + 1) (set row i (f32Of n))) (entriesOf (count - (i + 1)) later)
-  read-next n later h k e f =
-      let u : count - i ≡ suc (count - (i + 1)) = omega arith in
-      let t : take (i + 1) (set row i (f32Of n)) ≡ take i row ++ (f32Of n ∷ []) = rw add-one (take-suc-set row i (f32Of n) k) in
-      inv
-      ∙ ap (λ (m : ℕ). after (take i row) (entriesOf m fields)) u
-      ∙ ap (after (take i row)) (entries-hit (count - (i + 1)) n fields e)
-      ∙ after-one (take i row) n (entriesOf (count - (i + 1)) (laterFields fields))
-      ∙ rw (t, f)
+-- ---- i entries are read into a row of zeros, and these fields are left
+pub record SoFar (whole : Option (List Float)) (count i : ℕ) (row : List Float) (fields : List (List ℕ)) : Type 0 where
+  pub within : i ≤ count
+  pub long : length row ≡ 999
+  pub rest : drop i row ≡ drop i noRow
+  pub splits : whole ≡ after (take i row) (entriesOf (count - i) fields)
 
 -- nothing is read yet
-pub read-begins : (whole : Option (List Float)) (row : List Float) → whole ≡ after (take 0 row) whole
-read-begins whole row = sym (after-none whole)
+pub read-begins : (count : ℕ) (row : List Float) (fields : List (List ℕ)) → row ≡ noRow → SoFar (entriesOf count fields) count 0 row fields
+unfolding noRow
+read-begins count row fields e =
+    record {
+      within = omega arith;
+      long = ap length e ∙ length-replicate 999 (f32Of 0);
+      rest = ap (drop 0) e;
+      splits = rw sub-zero (sym (after-none (entriesOf count fields)));
+    }
 
--- all are read, and the line is at its end or not
-pub read-ends : (line : List ℕ) (at : ℕ) (row : List Float) (count i : ℕ) (whole : Option (List Float)) → whole ≡ after (take i row) (entriesOf (count - i) (fieldsFrom line at))
-    → i ≤ count → count ≤ i → rowRead (ltb (length line) at) (take count row) ≡ whole
-unfolding entriesOf
-read-ends line at row count i whole inv g h = sym (inv ∙ rw (z, e) (go (ltb (length line) at) refl))
-  where
-    e : i ≡ count
-    e = omega arith
+module _ {whole : Option (List Float)} {count i : ℕ} {row : List Float} {fields : List (List ℕ)} (s : SoFar whole count i row fields) where
+  -- a field that is no number, or none where one must be
+  pub read-fails : i < count → firstNumber fields ≡ none → whole ≡ none
+  read-fails h e = let u : 0 < count - i = omega arith in s .splits ∙ ap (after (take i row)) (entries-miss (count - i) fields u e)
 
-    z : count - i ≡ 0
-    z = omega arith
+  -- one more entry
+  pub read-next : (n : ℕ) (later : List (List ℕ)) → i < count → count ≤ 999 → firstNumber fields ≡ some n → laterFields fields ≡ later
+      → SoFar whole count (i + 1) (set row i (f32Of n)) later
+  read-next n later h few e f =
+      let l = s .long in
+      let u : count - i ≡ suc (count - (i + 1)) = omega arith in
+      let k : i < length row = omega arith in
+      let t : take (i + 1) (set row i (f32Of n)) ≡ take i row ++ (f32Of n ∷ []) = rw add-one (take-suc-set row i (f32Of n) k) in
+      record {
+        within = omega arith;
+        long = length-set row i (f32Of n) ∙ l;
+        rest = drop-set-lt (i + 1) row i (f32Of n) (omega arith) ∙ sym (drop-drop 1 i row) ∙ ap (drop 1) (s .rest) ∙ drop-drop 1 i noRow;
+        splits = s .splits
+            ∙ ap (λ (m : ℕ). after (take i row) (entriesOf m fields)) u
+            ∙ ap (after (take i row)) (entries-hit (count - (i + 1)) n fields e)
+            ∙ after-one (take i row) n (entriesOf (count - (i + 1)) (laterFields fields))
+            ∙ rw (t, f);
+      }
 
-    go : (t : Bool) → ltb (length line) at ≡ t → after (take count row) (entriesOf 0 (fieldsFrom line at)) ≡ rowRead t (take count row)
-    go true u = rw (beyond line at (ltb-true (length line) at u)) (ap some (append-nil (take count row)))
-    go false u = rw (from line at (ltb-false (length line) at u))
+-- all are read: where the line is at its end they are the row's first, with zeros after them, and else it has too many
+module _ {whole : Option (List Float)} {count i : ℕ} {row : List Float} (line : List ℕ) (at : ℕ) (s : SoFar whole count i row (fieldsFrom line at)) (all : count ≤ i) where
+  last : whole ≡ after (take count row) (entriesOf 0 (fieldsFrom line at))
+  last =
+      let w = s .within in
+      let e : i ≡ count = omega arith in
+      let z : count - i ≡ 0 = omega arith in
+      s .splits ∙ rw (z, e)
+
+  pub read-whole : length line < at → whole ≡ some (take count row)
+  unfolding entriesOf
+  read-whole h = last ∙ rw (beyond line at h) (ap some (append-nil (take count row)))
+
+  pub read-more : at ≤ length line → whole ≡ none
+  unfolding entriesOf
+  read-more h = last ∙ rw (from line at h)
+
+  pub read-row : count ≤ 999 → row ≡ over (take count row) noRow
+  unfolding over
+  read-row few =
+      let w = s .within in
+      let l = s .long in
+      let e : i ≡ count = omega arith in
+      let n : length (take count row) ≡ count = length-take-le count row (omega arith) in
+      let r : drop count row ≡ drop count noRow = rw e at (s .rest) in
+      rw n (sym (take-append-drop count row) ∙ ap (λ (l : List Float). take count row ++ l) r)

@@ -10,9 +10,14 @@ use lib.Ieee.{Float}
 use lib.ListN.{length, take}
 use borrow.Author.Tests.{le-leb, lt-leb, eq-eqb, ne-eqb, eqb-true, eqb-false}
 use Rattle.limits.specs.Taken.{f32Of}
+use Rattle.text.specs.Put.{over}
 use Rattle.ring_reading.specs.Numbers.{numberOf}
-use Rattle.ring_reading.specs.Fields.{fieldsOf, joined, numbersOf, malformed, asks, shaped, lineOf}
-use Rattle.ring_reading.specs.Inner.{fieldsFrom, firstNumber, laterFields, Finds, entered, entriesOf, rowRead, withEntries, Heads}
+use Rattle.ring_reading.specs.Fields.{fieldsOf, joined, numbersOf, Line, malformed, asks, shaped, lineOf}
+use Rattle.ring_reading.specs.Reads.{noRow, lineRead, entriesRead, LineRead}
+use Rattle.ring_reading.specs.Inner.{fieldsFrom, firstNumber, laterFields, Finds, entered, entriesOf, withEntries, Heads}
+use Rattle.ring_reading.specs.declared.Reading.{Reading}
+use Rattle.ring_reading.specs.declared.Reading.the-variants.{Asks}
+use Rattle.ring_reading.specs.declared.Asked.{Asked}
 use Rattle.ring_reading.specs.declared.Field.{Field}
 use Rattle.ring_reading.specs.declared.Field.the-variants.{Number, Missing}
 use Rattle.ring_reading.specs.declared.Head.{Head}
@@ -124,33 +129,41 @@ pub begins-entries : {line : List ℕ} {n k step c at : ℕ} → Begins line (n 
     → shaped (numbersOf (fieldsOf line)) ≡ withEntries k step c (entriesOf n (fieldsFrom line at))
 begins-entries {line} {n} {k} {step} {c} {at} b = b .shape ∙ four n k step c (fieldsFrom line at)
 
--- ---- what a line asks
-pub too-long : (line : List ℕ) → 4096 < length line → malformed ≡ lineOf line
+-- ---- what is read of a line: nothing, or what its four numbers and its entries ask
+pub too-long : (line : List ℕ) {r : Asked} → 4096 < length line → LineRead malformed r → LineRead (lineOf line) r
 unfolding lineOf
-too-long line h = rw (lt-leb (length line) 4096 h)
+too-long line h m = rw (lt-leb (length line) 4096 h) m
 
 whole : (line : List ℕ) → length line ≤ 4096 → lineOf line ≡ shaped (numbersOf (fieldsOf line))
 unfolding lineOf
 whole line short = rw (le-leb (length line) 4096 short)
 
-module _ (line : List ℕ) (short : length line ≤ 4096) {h : Head} (heads : Heads line h) where
-  pub no-head : h ≡ Fewer → malformed ≡ lineOf line
-  no-head e = sym (whole line short ∙ subst (Heads line) e heads)
+module _ (line : List ℕ) (short : length line ≤ 4096) {h : Head} (heads : Heads line h) {r : Asked} where
+  pub no-head : h ≡ Fewer → LineRead malformed r → LineRead (lineOf line) r
+  no-head e m = subst (λ (l : Line). LineRead l r) (sym (whole line short ∙ subst (Heads line) e heads)) m
 
-  module _ {n k step c at : ℕ} (e : h ≡ Four n k step c at) where
-    known : Heads line (Four n k step c at)
-    known = subst (Heads line) e heads
+  pub by-entries : {n k step c at : ℕ} → h ≡ Four n k step c at → LineRead (withEntries k step c (entriesOf n (fieldsFrom line at))) r → LineRead (lineOf line) r
+  by-entries {n} {k} {step} {c} {at} e m =
+      let known : Heads line (Four n k step c at) = subst (Heads line) e heads in
+      subst (λ (l : Line). LineRead l r) (sym (whole line short ∙ known .1)) m
 
-    pub entries-below : n ≤ 999
-    entries-below = let u = known .0 in omega arith
+-- and how many entries it must have is known to be below 1,000
+pub entries-below : (line : List ℕ) {h : Head} {n k step c at : ℕ} → Heads line h → h ≡ Four n k step c at → n ≤ 999
+entries-below line {h} {n} {k} {step} {c} {at} heads e =
+    let known : Heads line (Four n k step c at) = subst (Heads line) e heads in
+    let u = known .0 in
+    omega arith
 
-    -- with its entries, and without
-    module _ (row : List Float) (t : Bool) (read : rowRead t (take n row) ≡ entriesOf n (fieldsFrom line at)) where
-      all : lineOf line ≡ withEntries k step c (rowRead t (take n row))
-      all = whole line short ∙ known .1 ∙ ap (withEntries k step c) (sym read)
+-- ---- what is read of its entries
+pub wrong-entries : (k step c : ℕ) {found : Option (List Float)} {r : Asked} → found ≡ none → LineRead malformed r → LineRead (withEntries k step c found) r
+wrong-entries k step c e m = rw e m
 
-      pub well-formed : t ≡ true → asks k step (f32Of c) (take n row) ≡ lineOf line
-      well-formed u = sym (all ∙ rw u)
-
-      pub wrong-entries : t ≡ false → malformed ≡ lineOf line
-      wrong-entries u = sym (all ∙ rw u)
+pub well-formed : {n k step : ℕ} (c : ℕ) {found : Option (List Float)} {r : Asked} → n ≤ 999 → r .reading ≡ Asks n k step (f32Of c) → found ≡ some (take n (r .row))
+    → r .row ≡ over (take n (r .row)) noRow → LineRead (withEntries k step c found) r
+well-formed {n} {k} {step} c {found} {r} few e f g =
+    rw f
+    (record {
+      asking = ap (λ (s : Reading). lineRead s (r .row)) e;
+      holds = g;
+      few = subst (λ (s : Reading). entriesRead s ≤ 999) (sym e) few;
+    })

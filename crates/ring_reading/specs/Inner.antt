@@ -1,6 +1,6 @@
 -- What the private functions that read a line promise among themselves. Nothing here is a promise to a caller. Definitions only.
 use mathlib.Core.Path.{_≡_}
-use mathlib.Core.Bool.{Bool, cond}
+use mathlib.Core.Bool.{cond}
 use mathlib.Core.List.{List, [], _∷_}
 use mathlib.Core.Option.{Option, none, some}
 use Prim.Native.Nat.{ℕ, zero, suc, _+_, _<_}
@@ -53,10 +53,6 @@ entriesOf zero [] = some []
 entriesOf zero (field ∷ fields) = none
 entriesOf (suc n) [] = none
 entriesOf (suc n) (field ∷ fields) = entered (numberOf field) (entriesOf n fields)
-
--- a row that was read, or none
-abbrev pub rowRead : Bool → List Float → Option (List Float)
-rowRead whole row = cond whole (some row) none
 
 -- a line with four numbers and these entries
 abbrev pub withEntries : ℕ → ℕ → ℕ → Option (List Float) → Line

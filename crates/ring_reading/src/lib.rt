@@ -3,11 +3,11 @@ ghost use mathlib.Core.Path.{_≡_};
 ghost use mathlib.Core.Bool.{true};
 ghost use mathlib.Core.List.{List};
 ghost use Prim.Native.Nat.{ℕ, _+_, _-_, _≤_};
-ghost use lib.ListN.{length, getD, take};
+ghost use lib.ListN.{getD};
 ghost use Rattle.ring_reading.specs.Numbers.{isDigit};
-ghost use Rattle.ring_reading.specs.Fields.{lineOf};
-ghost use Rattle.ring_reading.specs.Reads.{lineRead, entriesRead};
-ghost use Rattle.ring_reading.specs.Inner.{fieldsFrom, Bytes, Finds, Heads, entriesOf, rowRead};
+ghost use Rattle.ring_reading.specs.Fields.{malformed, lineOf};
+ghost use Rattle.ring_reading.specs.Reads.{noRow, LineRead};
+ghost use Rattle.ring_reading.specs.Inner.{fieldsFrom, Bytes, Finds, Heads, entriesOf, withEntries};
 
 // What a line asks.
 pub enum Reading {
@@ -20,6 +20,14 @@ pub enum Reading {
         step: usize,
         c: f32,
     },
+}
+
+// What was read of a line.
+pub struct Asked {
+    // what it asks
+    pub reading: Reading,
+    // its entries, and zeros after them; all zero where it is malformed
+    pub row: [f32; 999],
 }
 
 // What a place of a line holds.
@@ -131,30 +139,55 @@ fn head_of(line: &[u8]) -> Head
     }
 }
 
-// Reads the entries from a place of a line on into a row, and says whether they are just as many as they must be.
-fn read_entries(line: &[u8], from: usize, count: usize, row: &mut [f32]) -> bool
-    requires { ⌜ count ≤ length (now row) ⌝ }
-    ensures { λ r. ⌜ rowRead r (take count (now (row .exit))) ≡ entriesOf count (fieldsFrom (now (line .entry)) from) ⌝ }
+// No entries.
+fn no_row() -> [f32; 999]
+    ensures { λ r. ⌜ r ≡ noRow ⌝ }
 {
+    [0.0f32; 999]
+}
+
+// What is read of a line that is malformed.
+fn nothing() -> Asked
+    ensures { λ r. ⌜ LineRead malformed r ⌝ }
+{
+    Asked {
+        reading: Reading::Malformed,
+        row: no_row(),
+    }
+}
+
+// What a line asks that starts with these four numbers, by the entries from a place on.
+fn read_entries(line: &[u8], from: usize, length: usize, k: usize, step: usize, c: u16) -> Asked
+    requires { ⌜ length ≤ 999 ⌝ }
+    ensures { λ r. ⌜ LineRead (withEntries k step c (entriesOf length (fieldsFrom (now (line .entry)) from))) r ⌝ }
+{
+    let c = c as f32;
+    let mut asked = Asked {
+        reading: Reading::Asks { length, k, step, c },
+        row: no_row(),
+    };
     let mut at = from;
     let mut i = 0;
-    while i < count {
+    while i < length {
         let Field::Number(n, next) = number_at(line, at) else {
-            return false;
+            return nothing();
         };
-        row[i] = n as f32;
+        asked.row[i] = n as f32;
         at = next;
         i += 1;
     }
-    line.len() < at
+    if at <= line.len() {
+        return nothing();
+    }
+    asked
 }
 
-// What a line asks, with the entries in the row.
-pub fn read_line(line: &[u8], row: &mut [f32; 999]) -> Reading
-    ensures { λ r. ⌜ (lineRead r (now (row .exit)) ≡ lineOf (now (line .entry))) × (entriesRead r ≤ 999) ⌝ }
+// What a line asks.
+pub fn read_line(line: &[u8]) -> Asked
+    ensures { λ r. ⌜ LineRead (lineOf (now (line .entry))) r ⌝ }
 {
     if 4096 < line.len() {
-        return Reading::Malformed;
+        return nothing();
     }
     let Head::Four {
         length,
@@ -164,16 +197,7 @@ pub fn read_line(line: &[u8], row: &mut [f32; 999]) -> Reading
         entries,
     } = head_of(line)
     else {
-        return Reading::Malformed;
+        return nothing();
     };
-    let length = length as usize;
-    if read_entries(line, entries, length, row) {
-        return Reading::Asks {
-            length,
-            k: k as usize,
-            step: step as usize,
-            c: c as f32,
-        };
-    }
-    Reading::Malformed
+    read_entries(line, entries, length as usize, k as usize, step as usize, c)
 }

@@ -17,7 +17,11 @@ pub record PutIn (before : List ℕ) (at : ℕ) (bytes after : List ℕ) (r : �
   pub holds : after ≡ putIn before at bytes
   pub ends : r ≡ placeAfter before at bytes
 
--- bytes put after the first `at` of a text, and r, where they end
-pub record Put (before : List ℕ) (at : ℕ) (bytes after : List ℕ) (r : ℕ) : Type 0 where
-  pub ends : r ≡ at + length bytes
-  pub holds : take r after ≡ take at before ++ bytes
+-- these laid over the front of what stood there, of which the rest is untouched
+unfoldable pub over : {A : Type 0} → List A → List A → List A
+over front before = front ++ drop (length front) before
+
+-- bytes laid over the front of a text, and r, how many they are
+pub record Laid (before bytes after : List ℕ) (r : ℕ) : Type 0 where
+  pub holds : after ≡ over bytes before
+  pub counts : r ≡ length bytes

@@ -5,10 +5,10 @@ use Rattle.ring.proofs.take_all.Statement.{statement}
 use Rattle.ring.proofs.take_all.Tie as tie
 
 abbrev Inv-loop : tie.InvT-loop
-Inv-loop buffer₀ row₀ work₀ out₀ state₀ turns₀ buffer row work out state turns = Unit {0}
+Inv-loop buffer₀ out₀ state₀ turns₀ buffer out state turns = Unit {0}
 
 abbrev μ-loop : tie.MeasureT-loop
-μ-loop buffer₀ row₀ work₀ out₀ state₀ turns₀ buffer row work out state turns = turns
+μ-loop buffer₀ out₀ state₀ turns₀ buffer out state turns = turns
 
 loop-holds : tie.Need-loop-holds Inv-loop μ-loop
 loop-holds c = tt

@@ -6,22 +6,26 @@ use native.Mathlib.Omega.{arith}
 use lib.ListN.{length, take, drop, length-take, length-drop}
 use borrow.Author.Needs.{needs}
 use borrow.Author.Tests.{ltb-true}
+use Rattle.ring_lines.specs.Pieces.{Kept, takenFrom}
+use Rattle.ring_lines.proofs.Taking.{taken-within, taken-some}
 use Rattle.ring.proofs.take_piece.Statement.{statement}
 use Rattle.ring.proofs.take_piece.Tie as tie
 
--- what is left is as long as it must be, and some of it is taken
-advance : (piece : List ℕ) (at taken : ℕ) → at < length piece → taken ≤ length (take (length piece - at) (drop at piece))
-    → (0 < length (take (length piece - at) (drop at piece)) → 0 < taken) → (at + taken ≤ length piece) × (0 < taken)
-advance piece at taken h within some =
-    let e : length (take (length piece - at) (drop at piece)) ≡ length piece - at = simp (length-take, length-drop) (omega arith) in
-    let u = some (omega arith) in
-    (omega arith, u)
+-- of what is left some is taken, and no more than there is
+advance : (piece : List ℕ) (at : ℕ) (kept : Kept) (taken : ℕ) → at < length piece → taken ≡ takenFrom kept 0 (take (length piece - at) (drop at piece))
+    → (at + taken ≤ length piece) × (0 < taken)
+advance piece at kept taken h e =
+    let left = take (length piece - at) (drop at piece) in
+    let n : length left ≡ length piece - at = simp (length-take, length-drop) (omega arith) in
+    let u = taken-within kept 0 left in
+    let v = taken-some kept left (omega arith) in
+    (omega arith, omega arith)
 
 abbrev Inv-loop : tie.InvT-loop
-Inv-loop piece buffer₀ held row₀ work₀ out₀ count₀ more₀ at₀ buffer row work out count more at = at ≤ length piece
+Inv-loop piece buffer₀ held out₀ count₀ more₀ at₀ buffer out count more at = at ≤ length piece
 
 abbrev μ-loop : tie.MeasureT-loop
-μ-loop piece buffer₀ held row₀ work₀ out₀ count₀ more₀ at₀ buffer row work out count more at = length piece - at
+μ-loop piece buffer₀ held out₀ count₀ more₀ at₀ buffer out count more at = length piece - at
 
 loop-holds : tie.Need-loop-holds Inv-loop μ-loop
 loop-holds c = omega arith
@@ -44,30 +48,30 @@ write-first-requires c κs = tt
 add-at : tie.Need-add-at Inv-loop μ-loop
 add-at c =
     let p1 = c .before .before .before .before in
-    let p2 = p1 .before .before .before .before .before .before in
+    let p2 = p1 .before .before .before .before in
     let p3 = p2 .before .before in
     let p4 = p3 .before .before in
     let h = ltb-true _ _ (p2 .if1 .taken) in
-    let a = advance (p4 .args .piece .now) (p3 .loop .at) _ h (p1 .answer-piece .ensures .within) (p1 .answer-piece .ensures .some) in
+    let a = advance (p4 .args .piece .now) (p3 .loop .at) _ _ h (p1 .answer-piece .ensures .takes) in
     omega arith
 
 loop-less : tie.Need-loop-less Inv-loop μ-loop
 loop-less c =
     let p1 = c .before .before .before .before in
-    let p2 = p1 .before .before .before .before .before .before in
+    let p2 = p1 .before .before .before .before in
     let p3 = p2 .before .before in
     let p4 = p3 .before .before in
     let h = ltb-true _ _ (p2 .if1 .taken) in
-    let a = advance (p4 .args .piece .now) (p3 .loop .at) _ h (p1 .answer-piece .ensures .within) (p1 .answer-piece .ensures .some) in
+    let a = advance (p4 .args .piece .now) (p3 .loop .at) _ _ h (p1 .answer-piece .ensures .takes) in
     omega arith
 
 loop-again : tie.Need-loop-again Inv-loop μ-loop
 loop-again c =
     let p1 = c .before .before .before .before in
-    let p2 = p1 .before .before .before .before .before .before in
+    let p2 = p1 .before .before .before .before in
     let p3 = p2 .before .before in
     let p4 = p3 .before .before in
-    let h = ltb-true _ _ (p2 .if1 .taken) in let a = advance (p4 .args .piece .now) (p3 .loop .at) _ h (p1 .answer-piece .ensures .within) (p1 .answer-piece .ensures .some) in a .0
+    let h = ltb-true _ _ (p2 .if1 .taken) in let a = advance (p4 .args .piece .now) (p3 .loop .at) _ _ h (p1 .answer-piece .ensures .takes) in a .0
 
 returns : tie.Need-returns Inv-loop μ-loop
 returns c = tt
