@@ -103,6 +103,20 @@ pub fn line(out: &mut dyn Write, operation: &str, words: &[u32]) -> io::Result<(
     writeln!(out)
 }
 
+/// Writes a case that is wrong on purpose: a line `wrong`, then this case with its words changed.
+pub fn wrong(
+    out: &mut dyn Write,
+    operation: &str,
+    words: &[u32],
+    change: impl FnOnce(&mut Vec<u32>),
+) -> io::Result<()> {
+    let mut changed = words.to_vec();
+    change(&mut changed);
+    assert!(changed != words, "{operation}: nothing is wrong");
+    line(out, "wrong", &[])?;
+    line(out, operation, &changed)
+}
+
 /// A list being written.
 pub struct List<'a> {
     out: &'a mut dyn Write,
@@ -140,6 +154,16 @@ impl List<'_> {
         line(self.out, operation, words)
     }
 
+    /// Writes a case that is wrong on purpose.
+    pub fn wrong(
+        &mut self,
+        operation: &str,
+        words: &[u32],
+        change: impl FnOnce(&mut Vec<u32>),
+    ) -> io::Result<()> {
+        wrong(self.out, operation, words, change)
+    }
+
     /// Writes a comment.
     pub fn comment(&mut self, text: &str) -> io::Result<()> {
         writeln!(self.out, "# {text}")
@@ -153,8 +177,13 @@ impl List<'_> {
 
     /// Writes one case of an operation over words.
     pub fn words(&mut self, operation: &str, input: &[u32]) -> io::Result<()> {
+        self.line(operation, &self.case(operation, input))
+    }
+
+    /// The words of a case of an operation over words: these, and the outputs.
+    pub fn case(&self, operation: &str, input: &[u32]) -> Vec<u32> {
         let output = answer(operation, input, &self.cos, &self.sin);
-        self.line(operation, &[input, &output].concat())
+        [input, &output].concat()
     }
 
     /// Writes one hue with a component replaced: a cosine (which = 0) or a sine (1).

@@ -40,6 +40,16 @@ pub fn digest(bytes: impl Iterator<Item = u8>) -> u64 {
     })
 }
 
+/// The words of the greatest chroma at a lightness in a direction.
+pub fn chroma_words(l: f32, cos: f32, sin: f32) -> [u32; 4] {
+    [l, cos, sin, max_chroma(l, cos, sin)].map(word)
+}
+
+/// The words of the lightness of a level.
+pub fn lightness_words(level: u16) -> [u32; 2] {
+    [level.into(), word(l_of(level.into()))]
+}
+
 /// Begins a list of gamut cases made by this command.
 pub fn begin<'a>(out: &'a mut dyn io::Write, command: &str) -> io::Result<List<'a>> {
     List::begin(out, "Gamut", "xtask/src/palette.rs", command)
@@ -63,33 +73,41 @@ impl List<'_> {
         if let Some(size) = lent.size {
             self.line("size", &[size as u32])?;
         }
+        let words = self.row_words(level, &lent);
+        if let Some((which, j, v)) = kept {
+            self.component(which, j, v);
+        }
+        self.line("row", &words)
+    }
+
+    /// The words of one row with these lengths, over entries that stand for their places.
+    pub fn row_words(&self, level: u32, lent: &Lent) -> [u32; 4] {
         let (c, s) = lent.lengths.unwrap_or((DIRECTIONS, DIRECTIONS));
         let places = 0..lent.size.unwrap_or(DIRECTIONS) as u32;
         let mut row: Vec<f32> = places.map(|i| f32::from_bits(0x3f80_0000 + i)).collect();
         let number = fill_row(level, &self.cos[..c], &self.sin[..s], &mut row);
-        if let Some((which, j, v)) = kept {
-            self.component(which, j, v);
-        }
         let digest = digest(row.iter().flat_map(|entry| entry.to_bits().to_le_bytes()));
-        let words = [level, number, (digest >> 32) as u32, digest as u32];
-        self.line("row", &words)
+        [level, number, (digest >> 32) as u32, digest as u32]
     }
 
     /// Writes the entry of one level and direction.
     pub fn entry(&mut self, level: u32, j: usize) -> io::Result<()> {
+        self.line("ent", &self.entry_words(level, j))
+    }
+
+    /// The words of the entry of one level and direction.
+    pub fn entry_words(&self, level: u32, j: usize) -> [u32; 3] {
         let entry = max_chroma(l_of(level as usize), self.cos[j], self.sin[j]);
-        self.line("ent", &[level, j as u32, word(entry)])
+        [level, j as u32, word(entry)]
     }
 
     /// Writes the greatest chroma at a lightness in a direction.
     pub fn max_chroma(&mut self, l: f32, cos: f32, sin: f32) -> io::Result<()> {
-        let chroma = max_chroma(l, cos, sin);
-        self.line("maxc", &[l, cos, sin, chroma].map(word))
+        self.line("maxc", &chroma_words(l, cos, sin))
     }
 
     /// Writes the lightness of a level.
     pub fn lightness(&mut self, level: u16) -> io::Result<()> {
-        let words = [level.into(), word(l_of(level.into()))];
-        self.line("lof", &words)
+        self.line("lof", &lightness_words(level))
     }
 }

@@ -5,6 +5,7 @@ use crate::gamut::{begin, Lent};
 use crate::lists::{step, COMPONENTS, ODD};
 use crate::random::{Random, SPECIAL};
 use crate::standins::{DIRECTIONS, LEVELS};
+use crate::wrong_lists;
 use std::io::{self, Write};
 
 /// The level after the last one.
@@ -26,7 +27,8 @@ pub fn fixed(out: &mut dyn Write) -> io::Result<()> {
     odd_chromas(&mut list)?;
     chromas(&mut list, &mut random)?;
     lightnesses(&mut list, &mut random)?;
-    other_directions(&mut list, &mut random)
+    other_directions(&mut list, &mut random)?;
+    wrong_lists::gamuts(&mut list)
 }
 
 /// Writes every entry in the standard directions, and every row.

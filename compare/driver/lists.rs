@@ -4,6 +4,7 @@ use crate::cases::{List, OPERATIONS};
 use crate::color::{linear_to_xyz, srgb8_to_lab, Linear, Srgb8};
 use crate::random::Random;
 use crate::standins::{tables, DIRECTIONS};
+use crate::wrong_lists;
 use std::io::{self, Write};
 
 /// Where lab_f and lab_f_inv change their branch.
@@ -197,7 +198,8 @@ pub fn fixed(out: &mut dyn Write) -> io::Result<()> {
     gamut_edges(&mut list)?;
     hues(&mut list, &mut random)?;
     lent_directions(&mut list)?;
-    clips(&mut list, &mut random)
+    clips(&mut list, &mut random)?;
+    wrong_lists::colours(&mut list)
 }
 
 /// Writes every code through the decoder and every threshold through the encoder.

@@ -31,6 +31,7 @@ mod search_lists;
 mod standins;
 #[allow(dead_code)]
 mod validating; // a palette, its validation and the printed ones, taken from the published file by compare/build
+mod wrong_lists;
 
 use std::io::{self, BufWriter, Write};
 use std::process::ExitCode;

@@ -1,6 +1,6 @@
 //! The lines of a list of pair cases: two rows, and the best over them.
 
-use crate::cases::{head, line, word};
+use crate::cases::{head, line, word, wrong};
 use crate::pairing;
 use crate::placement::{refusal, Call, STORED};
 use crate::placing;
@@ -27,6 +27,20 @@ fn answer(rows: [&[f32]; 2], call: Call) -> Answer {
         Some((chroma, hues)) => Answer::Found(chroma, hues),
         None => Answer::Nothing,
     }
+}
+
+/// The words of a pair with this answer.
+fn words_of(call: Call, answer: &Answer) -> Vec<u32> {
+    let mut words = vec![call.k, call.step, word(call.c), call.room as u32];
+    match answer {
+        Answer::Found(chroma, hues) => {
+            words.extend([0, word(*chroma)]);
+            words.extend(hues.iter().map(|hue| *hue as u32));
+        }
+        Answer::Nothing => words.push(0),
+        Answer::Refused(number) => words.push(*number),
+    }
+    words
 }
 
 /// The lesser value of two rows at each hue that both have.
@@ -147,24 +161,11 @@ impl Pairs<'_> {
     pub fn best(&mut self, call: Call) -> io::Result<Option<f32>> {
         let answer = answer(self.rows(), call);
         self.count(call, &answer);
-        let mut words = vec![call.k, call.step, word(call.c), call.room as u32];
-        let chroma = match &answer {
-            Answer::Found(chroma, hues) => {
-                words.extend([0, word(*chroma)]);
-                words.extend(hues.iter().map(|hue| *hue as u32));
-                Some(*chroma)
-            }
-            Answer::Nothing => {
-                words.push(0);
-                None
-            }
-            Answer::Refused(number) => {
-                words.push(*number);
-                None
-            }
-        };
-        line(self.out, "best", &words)?;
-        Ok(chroma)
+        line(self.out, "best", &words_of(call, &answer))?;
+        Ok(match answer {
+            Answer::Found(chroma, _) => Some(chroma),
+            Answer::Nothing | Answer::Refused(_) => None,
+        })
     }
 
     /// Writes the best of a pair with a work buffer just long enough, and gives its chroma.
@@ -176,6 +177,18 @@ impl Pairs<'_> {
             c: floor,
             room,
         })
+    }
+
+    /// Writes the best of a pair with a work buffer just long enough, wrong on purpose.
+    pub fn wrong_from(
+        &mut self,
+        (c, k, step): (f32, u32, u32),
+        change: impl FnOnce(&mut Vec<u32>),
+    ) -> io::Result<()> {
+        let room = 3 * self.lengths[0];
+        let call = Call { k, step, c, room };
+        let words = words_of(call, &answer(self.rows(), call));
+        wrong(self.out, "best", &words, change)
     }
 
     /// Ends the list with how many answers of each kind it holds.

@@ -6,6 +6,7 @@ use crate::placement::{Call, STORED};
 use crate::placement_lists::{hidden, nudge, runs, tight, COUNTS, EDGES, REFUSED};
 use crate::placing;
 use crate::random::Random;
+use crate::wrong_lists;
 use std::io::{self, Write};
 
 /// The least chroma that a palette is asked for.
@@ -30,6 +31,7 @@ pub fn fixed(out: &mut dyn Write) -> io::Result<()> {
     for n in [3, 9, 16, 22, 23, 44, 45, 100, 180, 360, 500, 719, 720] {
         random_pair(&mut list, &mut random, n, 24)?;
     }
+    wrong_lists::pairs(&mut list)?;
     list.end()
 }
 

@@ -11,6 +11,7 @@ use crate::random::Random;
 use crate::search::panel;
 use crate::standins::{DIRECTIONS, LEVELS};
 use crate::validating as published;
+use crate::wrong_lists;
 use std::io::{self, Write};
 
 /// A middle grey.
@@ -51,6 +52,7 @@ pub fn fixed(out: &mut dyn Write) -> io::Result<()> {
         }
     }
     other_directions(&mut list, &mut random)?;
+    wrong_lists::palettes(&mut list)?;
     list.end()
 }
 
@@ -75,7 +77,7 @@ pub fn many(out: &mut dyn Write, seed: u64, count: usize) -> io::Result<()> {
 }
 
 /// A design with these hues.
-fn design(levels: [u32; 2], hues: &[u16]) -> Design {
+pub fn design(levels: [u32; 2], hues: &[u16]) -> Design {
     let mut all = [0; 16];
     all[..hues.len()].copy_from_slice(hues);
     Design {
@@ -92,7 +94,7 @@ fn design_of(lightness: [f32; 2], degrees: &[f32]) -> Design {
 }
 
 /// The designs of the two printed palettes.
-fn printed_designs() -> [Design; 2] {
+pub fn printed_designs() -> [Design; 2] {
     use published::{C4_HUES, C4_L0, C4_L1, C8_HUES, C8_L0, C8_L1};
     [
         design_of([C4_L0, C4_L1], &C4_HUES),

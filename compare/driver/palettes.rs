@@ -44,6 +44,43 @@ pub struct Lent {
 /// Cosines and sines.
 type Directions = (Vec<f32>, Vec<f32>);
 
+/// What a derivation gives: colours, or the number of its refusal.
+type Derived = Result<Vec<Srgb8>, u32>;
+
+/// What a validation gives: the metrics and the finding, 0 where there is none, or the number of
+/// its refusal.
+type Judged = Result<([f32; 4], u32), u32>;
+
+/// What a back-off gives: a chroma with its colours or the last finding, or the number of its
+/// refusal.
+type BackedOff = Result<Result<(f32, Vec<Srgb8>), u32>, u32>;
+
+/// The words of a derivation that gives this.
+fn derived_words(chroma: f32, derived: &Derived) -> Vec<u32> {
+    vec![word(chroma), *derived.as_ref().err().unwrap_or(&0)]
+}
+
+/// The words of a validation that gives this.
+fn judged_words(k: u32, count: u32, judged: &Judged) -> Vec<u32> {
+    let (metrics, finding) = match judged {
+        Ok(judged) => judged,
+        Err(number) => return vec![k, count, *number],
+    };
+    let mut words = vec![k, count, 0];
+    words.extend(metrics.map(word));
+    words.push(*finding);
+    words
+}
+
+/// The words of a back-off that gives this.
+fn backed_off_words(chroma: f32, end: &BackedOff) -> Vec<u32> {
+    match end {
+        Ok(Ok((passed, _))) => vec![word(chroma), 0, 1, word(*passed)],
+        Ok(Err(finding)) => vec![word(chroma), 0, 0, *finding],
+        Err(number) => vec![word(chroma), *number],
+    }
+}
+
 /// The number of the first fault.
 fn first(asked: &[(u32, bool)]) -> Option<u32> {
     let wrong = asked.iter().find(|(_, fine)| !fine);
@@ -214,59 +251,151 @@ impl Palettes<'_> {
         self.list.line(operation, words)
     }
 
-    /// Writes a derivation of the design; the colours are the derived ones afterwards.
-    pub fn derive(&mut self, chroma: f32) -> io::Result<()> {
+    /// What a derivation of the design gives.
+    fn derived(&self, chroma: f32) -> Derived {
         let design = self.design.expect("a design");
         let directions = self.directions();
         if let Some(number) = design_refusal(&design, chroma, &directions) {
-            self.tally.refused[0] += 1;
-            return self.case("derive", &[word(chroma), number]);
+            return Err(number);
         }
         let (cos, sin) = &directions;
-        self.tally.derived += 1;
-        self.paint(&deriving::derive(&solution(&design, chroma), cos, sin))?;
-        self.case("derive", &[word(chroma), 0])
+        Ok(deriving::derive(&solution(&design, chroma), cos, sin))
+    }
+
+    /// Writes a derivation of the design; the colours are the derived ones afterwards.
+    pub fn derive(&mut self, chroma: f32) -> io::Result<()> {
+        let derived = self.derived(chroma);
+        match &derived {
+            Ok(colors) => {
+                self.tally.derived += 1;
+                self.paint(colors)?;
+            }
+            Err(_) => self.tally.refused[0] += 1,
+        }
+        self.case("derive", &derived_words(chroma, &derived))
+    }
+
+    /// Writes a derivation of the design whose words are wrong on purpose.
+    pub fn wrong_derive(
+        &mut self,
+        chroma: f32,
+        change: impl FnOnce(&mut Vec<u32>),
+    ) -> io::Result<()> {
+        let derived = self.derived(chroma);
+        if let Ok(colors) = &derived {
+            self.paint(colors)?;
+        }
+        let words = derived_words(chroma, &derived);
+        self.list.wrong("derive", &words, change)
+    }
+
+    /// What a validation of the colours gives.
+    fn judged(&self, k: u32, count: u32) -> Judged {
+        let directions = self.directions();
+        if let Some(number) = palette_refusal(k, count, &directions) {
+            return Err(number);
+        }
+        let (cos, sin) = &directions;
+        Ok(judged(k as usize, &self.colors[..count as usize], cos, sin))
     }
 
     /// Writes a validation of the colours.
     pub fn validate(&mut self, k: u32, count: u32) -> io::Result<()> {
+        let judged = self.judged(k, count);
+        match judged {
+            Ok((_, finding)) => self.tally.measured[finding as usize] += 1,
+            Err(_) => self.tally.refused[1] += 1,
+        }
+        self.case("validate", &judged_words(k, count, &judged))
+    }
+
+    /// Writes a validation of the colours that is wrong on purpose.
+    pub fn wrong_validate(
+        &mut self,
+        k: u32,
+        count: u32,
+        change: impl FnOnce(&mut Vec<u32>),
+    ) -> io::Result<()> {
+        let words = judged_words(k, count, &self.judged(k, count));
+        self.list.wrong("validate", &words, change)
+    }
+
+    /// What a back-off of the design gives.
+    fn backed_off(&self, chroma: f32) -> BackedOff {
+        let design = self.design.expect("a design");
         let directions = self.directions();
-        if let Some(number) = palette_refusal(k, count, &directions) {
-            self.tally.refused[1] += 1;
-            return self.case("validate", &[k, count, number]);
+        if let Some(number) = design_refusal(&design, chroma, &directions) {
+            return Err(number);
         }
         let (cos, sin) = &directions;
-        let (metrics, finding) = judged(k as usize, &self.colors[..count as usize], cos, sin);
-        self.tally.measured[finding as usize] += 1;
-        let mut words = vec![k, count, 0];
-        words.extend(metrics.map(word));
-        words.push(finding);
-        self.case("validate", &words)
+        Ok(
+            match deriving::back_off(&solution(&design, chroma), cos, sin) {
+                Ok((found, colors)) => Ok((deriving::chroma(&found), colors)),
+                Err(text) => Err(finding(text)),
+            },
+        )
     }
 
     /// Writes a back-off of the design; the colours are those handed out where there are any.
     pub fn back_off(&mut self, chroma: f32) -> io::Result<()> {
-        let design = self.design.expect("a design");
-        let directions = self.directions();
-        if let Some(number) = design_refusal(&design, chroma, &directions) {
-            self.tally.refused[2] += 1;
-            return self.case("backoff", &[word(chroma), number]);
-        }
-        let (cos, sin) = &directions;
-        match deriving::back_off(&solution(&design, chroma), cos, sin) {
-            Ok((found, colors)) => {
-                let passed = deriving::chroma(&found);
-                self.tally.at_once += u64::from(passed == chroma);
-                self.tally.lowered += u64::from(passed != chroma);
-                self.paint(&colors)?;
-                self.case("backoff", &[word(chroma), 0, 1, word(passed)])
+        let end = self.backed_off(chroma);
+        match &end {
+            Ok(Ok((passed, colors))) => {
+                self.tally.at_once += u64::from(*passed == chroma);
+                self.tally.lowered += u64::from(*passed != chroma);
+                self.paint(colors)?;
             }
-            Err(text) => {
-                let finding = finding(text);
-                self.tally.ended[finding as usize] += 1;
-                self.case("backoff", &[word(chroma), 0, 0, finding])
-            }
+            Ok(Err(finding)) => self.tally.ended[*finding as usize] += 1,
+            Err(_) => self.tally.refused[2] += 1,
         }
+        self.case("backoff", &backed_off_words(chroma, &end))
+    }
+
+    /// Writes a back-off of the design whose words are wrong on purpose.
+    pub fn wrong_back_off(
+        &mut self,
+        chroma: f32,
+        change: impl FnOnce(&mut Vec<u32>),
+    ) -> io::Result<()> {
+        let end = self.backed_off(chroma);
+        if let Ok(Ok((_, colors))) = &end {
+            self.paint(colors)?;
+        }
+        let words = backed_off_words(chroma, &end);
+        self.list.wrong("backoff", &words, change)
+    }
+
+    /// Writes a derivation of the design that is wrong on purpose by the colour at a place, which
+    /// has these bits changed.
+    pub fn wrongly_derived(&mut self, chroma: f32, at: usize, bits: u32) -> io::Result<()> {
+        let derived = self.derived(chroma);
+        let words = derived_words(chroma, &derived);
+        let colors = derived.expect("colours");
+        self.wrong_color("derive", &words, &colors, (at, bits))
+    }
+
+    /// Writes a back-off of the design that is wrong on purpose by the colour at a place, which
+    /// has these bits changed.
+    pub fn wrongly_backed_off(&mut self, chroma: f32, at: usize, bits: u32) -> io::Result<()> {
+        let end = self.backed_off(chroma);
+        let words = backed_off_words(chroma, &end);
+        let (_, colors) = end.expect("an end").expect("colours");
+        self.wrong_color("backoff", &words, &colors, (at, bits))
+    }
+
+    /// Writes a case with these words, after colours of which one is wrong on purpose.
+    fn wrong_color(
+        &mut self,
+        operation: &str,
+        words: &[u32],
+        colors: &[Srgb8],
+        (at, bits): (usize, u32),
+    ) -> io::Result<()> {
+        self.paint(colors)?;
+        let color = Srgb8::from_hex(self.colors[at].to_hex() ^ bits);
+        self.more(at, &[color])?;
+        self.list.line("wrong", &[])?;
+        self.list.line(operation, words)
     }
 
     /// Ends the list with how many answers of each kind it holds.

@@ -1,6 +1,6 @@
 //! The lines of a list of placement cases: rings, steps, placements and sweeps.
 
-use crate::cases::{head, line, word};
+use crate::cases::{head, line, word, wrong};
 use crate::gamut::digest;
 use crate::placing;
 use std::io::{self, Write};
@@ -125,6 +125,38 @@ fn bytes_of(answer: &Answer) -> [u8; 33] {
     bytes
 }
 
+/// The words of the step for a hue count.
+fn step_words(k: u32) -> [u32; 3] {
+    if !(1..=16).contains(&k) {
+        return [k, BAD_HUE_COUNT, 0];
+    }
+    let step = placing::step(k as usize) as u32;
+    assert!(step == 600u32.div_ceil(k) + 1, "the step for {k}");
+    [k, 0, step]
+}
+
+/// The words of a placement with this answer.
+fn place_words(call: Call, answer: &Answer) -> Vec<u32> {
+    let mut words = vec![call.k, call.step, word(call.c), call.room as u32];
+    match answer {
+        Answer::Placed(hues) => {
+            words.push(0);
+            words.extend(hues.iter().map(|hue| *hue as u32));
+        }
+        Answer::Nowhere => words.push(0),
+        Answer::Refused(number) => words.push(*number),
+    }
+    words
+}
+
+/// The words of a sweep at these chromas, of which the answers give these bytes.
+fn sweep_words(chromas: &[f32], bytes: impl Iterator<Item = u8>) -> Vec<u32> {
+    let sum = digest(bytes);
+    let mut words = vec![(sum >> 32) as u32, sum as u32];
+    words.extend(chromas.iter().copied().map(word));
+    words
+}
+
 /// A list of placement cases being written.
 pub struct Placements<'a> {
     out: &'a mut dyn Write,
@@ -190,14 +222,12 @@ impl Placements<'_> {
 
     /// Writes the step for a hue count.
     pub fn step(&mut self, k: u32) -> io::Result<()> {
-        let words = if (1..=16).contains(&k) {
-            let step = placing::step(k as usize) as u32;
-            assert!(step == 600u32.div_ceil(k) + 1, "the step for {k}");
-            [k, 0, step]
-        } else {
-            [k, BAD_HUE_COUNT, 0]
-        };
-        line(self.out, "step", &words)
+        line(self.out, "step", &step_words(k))
+    }
+
+    /// Writes the step for a hue count, wrong on purpose.
+    pub fn wrong_step(&mut self, k: u32, change: impl FnOnce(&mut Vec<u32>)) -> io::Result<()> {
+        wrong(self.out, "step", &step_words(k), change)
     }
 
     /// Gives the answer to a call on the ring, and counts it.
@@ -220,16 +250,7 @@ impl Placements<'_> {
     /// Writes a placement.
     pub fn place(&mut self, call: Call) -> io::Result<()> {
         let answer = self.answered(call);
-        let mut words = vec![call.k, call.step, word(call.c), call.room as u32];
-        match &answer {
-            Answer::Placed(hues) => {
-                words.push(0);
-                words.extend(hues.iter().map(|hue| *hue as u32));
-            }
-            Answer::Nowhere => words.push(0),
-            Answer::Refused(number) => words.push(*number),
-        }
-        line(self.out, "place", &words)
+        line(self.out, "place", &place_words(call, &answer))
     }
 
     /// Writes a placement with a work buffer just long enough.
@@ -238,22 +259,50 @@ impl Placements<'_> {
         self.place(Call { k, step, c, room })
     }
 
-    /// Writes the digest of every placement on the ring at these chromas.
-    pub fn sweep(&mut self, chromas: &[f32]) -> io::Result<()> {
+    /// Writes a placement with a work buffer just long enough, wrong on purpose.
+    pub fn wrong_at(
+        &mut self,
+        (k, step, c): (u32, u32, f32),
+        change: impl FnOnce(&mut Vec<u32>),
+    ) -> io::Result<()> {
         let room = 3 * self.length;
-        let mut bytes = vec![];
+        let call = Call { k, step, c, room };
+        let words = place_words(call, &answer(self.ring(), call));
+        wrong(self.out, "place", &words, change)
+    }
+
+    /// Every call on the ring at these chromas.
+    fn calls(&self, chromas: &[f32]) -> Vec<Call> {
+        let room = 3 * self.length;
+        let mut calls = vec![];
         for k in 1..=16 {
             for step in 1..=self.length as u32 {
                 for c in chromas.iter().copied() {
-                    let answer = self.answered(Call { k, step, c, room });
-                    bytes.extend(bytes_of(&answer));
+                    calls.push(Call { k, step, c, room });
                 }
             }
         }
-        let sum = digest(bytes.into_iter());
-        let mut words = vec![(sum >> 32) as u32, sum as u32];
-        words.extend(chromas.iter().copied().map(word));
+        calls
+    }
+
+    /// Writes the digest of every placement on the ring at these chromas.
+    pub fn sweep(&mut self, chromas: &[f32]) -> io::Result<()> {
+        let calls = self.calls(chromas).into_iter();
+        let bytes: Vec<_> = calls.map(|call| bytes_of(&self.answered(call))).collect();
+        let words = sweep_words(chromas, bytes.into_iter().flatten());
         line(self.out, "sweep", &words)
+    }
+
+    /// Writes the digest of every placement on the ring at these chromas, wrong on purpose.
+    pub fn wrong_sweep(
+        &mut self,
+        chromas: &[f32],
+        change: impl FnOnce(&mut Vec<u32>),
+    ) -> io::Result<()> {
+        let calls = self.calls(chromas).into_iter();
+        let bytes = calls.flat_map(|call| bytes_of(&answer(self.ring(), call)));
+        let words = sweep_words(chromas, bytes);
+        wrong(self.out, "sweep", &words, change)
     }
 
     /// Ends the list with how many answers of each kind it holds.

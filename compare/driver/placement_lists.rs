@@ -3,10 +3,11 @@
 use crate::lists::step as float_step;
 use crate::placement::{Call, Placements, STORED};
 use crate::random::Random;
+use crate::wrong_lists;
 use std::io::{self, Write};
 
 /// The ring of document 01's marked cases.
-const MARKED: [f32; 8] = [50.0, 10.0, 45.0, 20.0, 60.0, 30.0, 41.0, 12.0];
+pub const MARKED: [f32; 8] = [50.0, 10.0, 45.0, 20.0, 60.0, 30.0, 41.0, 12.0];
 /// Chromas and entries that are refused.
 pub const REFUSED: [f32; 8] = [
     f32::NAN,
@@ -50,6 +51,7 @@ pub fn fixed(out: &mut dyn Write) -> io::Result<()> {
     ] {
         random_ring(&mut list, &mut random, n, 60)?;
     }
+    wrong_lists::placements(&mut list)?;
     list.end()
 }
 

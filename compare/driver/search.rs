@@ -1,6 +1,6 @@
 //! The lines of a list of search cases: a table, a job, and calls over both.
 
-use crate::cases::{head, line, word};
+use crate::cases::{head, line, word, wrong};
 use crate::chroma::{l_of, max_chroma};
 use crate::gamut::digest;
 use crate::job::{self, Job, ROOM};
@@ -18,6 +18,21 @@ const FEW_LEVELS: u32 = 12;
 fn equal(a: &[f32], b: &[f32]) -> bool {
     let bits = |row: &[f32]| row.iter().map(|v| v.to_bits()).collect::<Vec<_>>();
     bits(a) == bits(b)
+}
+
+/// The words for the answer to a call: its number, then the field of the job after it at this
+/// place of its words, and the best with its k hues where there is one.
+fn said(answer: Result<Job, u32>, field: usize) -> Vec<u32> {
+    let job = match answer {
+        Ok(job) => job,
+        Err(number) => return vec![number],
+    };
+    let words = job.words();
+    let mut said = vec![0, words[field]];
+    if job.best.is_some() {
+        said.extend(&words[5..8 + job.k as usize]);
+    }
+    said
 }
 
 /// The rows of every level in these directions.
@@ -168,24 +183,73 @@ impl Searches<'_> {
         Ok(())
     }
 
-    /// Takes the answer to a call, and gives the words for it: its number, then the field of
-    /// the job after it at this place of its words, and the best with its k hues where there is one.
+    /// Takes the answer to a call, and gives the words for it with this field.
     fn answered(&mut self, answer: Result<Job, u32>, field: usize) -> Vec<u32> {
-        let job = match answer {
-            Ok(job) => job,
-            Err(number) => {
-                self.refused += 1;
-                return vec![number];
+        match answer {
+            Ok(job) => {
+                self.accepted += 1;
+                self.job = job;
             }
-        };
-        self.accepted += 1;
-        self.job = job;
-        let words = job.words();
-        let mut said = vec![0, words[field]];
-        if job.best.is_some() {
-            said.extend(&words[5..8 + job.k as usize]);
+            Err(_) => self.refused += 1,
         }
-        said
+        said(answer, field)
+    }
+
+    /// Writes a call with this answer that is wrong on purpose; it is not counted.
+    fn wrong(
+        &mut self,
+        operation: &str,
+        input: &[u32],
+        (answer, field): (Result<Job, u32>, usize),
+        change: impl FnOnce(&mut Vec<u32>),
+    ) -> io::Result<()> {
+        self.job = answer.unwrap_or(self.job);
+        let words = [input, &said(answer, field)].concat();
+        wrong(self.out, operation, &words, change)
+    }
+
+    /// Writes a start that is wrong on purpose.
+    pub fn wrong_start(
+        &mut self,
+        (k, gap): (u32, f32),
+        change: impl FnOnce(&mut Vec<u32>),
+    ) -> io::Result<()> {
+        let answer = job::start(k, gap, self.table());
+        self.wrong("start", &[k, word(gap)], (answer, 2), change)
+    }
+
+    /// Writes a step in a work buffer of this length that is wrong on purpose.
+    pub fn wrong_step(
+        &mut self,
+        room: usize,
+        change: impl FnOnce(&mut Vec<u32>),
+    ) -> io::Result<()> {
+        let answer = job::step(self.table(), room, self.job);
+        self.wrong("step", &[room as u32], (answer, 3), change)
+    }
+
+    /// Writes so many steps in one line that are wrong on purpose.
+    pub fn wrong_steps(
+        &mut self,
+        count: usize,
+        change: impl FnOnce(&mut Vec<u32>),
+    ) -> io::Result<()> {
+        let (answers, words) = self.stepped(count);
+        for answer in answers {
+            self.job = answer.unwrap_or(self.job);
+        }
+        wrong(self.out, "steps", &words, change)
+    }
+
+    /// Writes a whole search in a work buffer of this length that is wrong on purpose.
+    pub fn wrong_search(
+        &mut self,
+        (k, gap, room): (u32, f32, usize),
+        change: impl FnOnce(&mut Vec<u32>),
+    ) -> io::Result<()> {
+        let answer = job::search(k, gap, self.table(), room);
+        let input = [k, word(gap), room as u32];
+        self.wrong("search", &input, (answer, 3), change)
     }
 
     /// Writes a start.
@@ -211,15 +275,26 @@ impl Searches<'_> {
 
     /// Writes so many steps in one line, with the digest of the answers and the jobs after them.
     pub fn steps(&mut self, count: usize) -> io::Result<()> {
-        let mut bytes = vec![];
+        let (answers, words) = self.stepped(count);
+        for answer in answers {
+            self.answered(answer, 3);
+        }
+        line(self.out, "steps", &words)
+    }
+
+    /// The answers to so many steps, and the words of all in one line.
+    fn stepped(&self, count: usize) -> (Vec<Result<Job, u32>>, [u32; 4]) {
+        let (mut job, mut answers, mut bytes) = (self.job, vec![], vec![]);
         for _ in 0..count {
-            let answer = job::step(self.table(), ROOM, self.job);
-            bytes.push(self.answered(answer, 3)[0] as u8);
-            bytes.extend(self.job.bytes());
+            let answer = job::step(self.table(), ROOM, job);
+            job = answer.unwrap_or(job);
+            bytes.push(answer.err().unwrap_or(0) as u8);
+            bytes.extend(job.bytes());
+            answers.push(answer);
         }
         let sum = digest(bytes.into_iter());
         let words = [count as u32, ROOM as u32, (sum >> 32) as u32, sum as u32];
-        line(self.out, "steps", &words)
+        (answers, words)
     }
 
     /// Writes a start and all of its steps, with one more that is refused.

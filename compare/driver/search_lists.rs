@@ -6,6 +6,7 @@ use crate::placement_lists::{EDGES, REFUSED};
 use crate::random::Random;
 use crate::search::{Searches, STORED};
 use crate::standins::{DIRECTIONS, LEVELS};
+use crate::wrong_lists;
 use std::io::{self, Write};
 
 /// Gaps that are refused.
@@ -55,6 +56,7 @@ pub fn fixed(out: &mut dyn Write) -> io::Result<()> {
         }
     }
     whole_panel(&mut list)?;
+    wrong_lists::searches(&mut list)?;
     list.end()
 }
 
@@ -76,12 +78,12 @@ pub fn many(out: &mut dyn Write, seed: u64, count: usize) -> io::Result<()> {
 }
 
 /// A table of so many rows of one value.
-fn flat(levels: usize, v: f32) -> Vec<f32> {
+pub fn flat(levels: usize, v: f32) -> Vec<f32> {
     vec![v; levels * DIRECTIONS]
 }
 
 /// A record in the midst of a search over four levels.
-const MIDST: Job = Job {
+pub const MIDST: Job = Job {
     k: 3,
     gap: 0.5,
     levels: 4,

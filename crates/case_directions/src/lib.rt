@@ -4,6 +4,8 @@ pub mod run;
 use case_words::float_at;
 use case_words::size_at;
 use case_words::word_at;
+ghost use mathlib.Core.Path.{_≡_};
+ghost use Rattle.case_directions.specs.Runs.{everyOne};
 
 // The 720 directions.
 pub struct Directions {
@@ -66,7 +68,9 @@ impl Directions {
 
 impl Lent {
     // Every direction and a row of as many entries, where nothing waits.
-    pub fn all() -> Lent {
+    pub fn all() -> Lent
+        ensures { λ r. ⌜ r ≡ everyOne ⌝ }
+    {
         Lent {
             cut: false,
             cosines: 720,

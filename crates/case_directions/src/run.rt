@@ -4,6 +4,8 @@ use crate::Directions;
 use crate::Lent;
 use case_lines::Replay;
 use cases::Line;
+ghost use mathlib.Core.Path.{_≡_};
+ghost use Rattle.case_directions.specs.Runs.{formed, agreed, settled};
 
 // What came of the lines so far.
 pub struct Run {
@@ -71,15 +73,19 @@ impl Run {
     }
 
     // With one more line that differs, unless a list may have it.
-    pub fn formed(mut self, fine: bool) -> Run {
+    pub fn formed(mut self, fine: bool) -> Run
+        ensures { λ r. ⌜ r ≡ formed fine self ⌝ }
+    {
         let replay = self.replay;
         let next = replay.formed(fine);
         self.replay = next;
         self
     }
 
-    // With one more line that differs, unless it gives what is expected.
-    pub fn agreed(mut self, same: bool) -> Run {
+    // With a case that gives what is expected or differs.
+    pub fn agreed(mut self, same: bool) -> Run
+        ensures { λ r. ⌜ r ≡ agreed same self ⌝ }
+    {
         let replay = self.replay;
         let next = replay.agreed(same);
         self.replay = next;
@@ -87,7 +93,9 @@ impl Run {
     }
 
     // With a case that gives what is expected or differs, and nothing that waits for the next.
-    pub fn settled(mut self, same: bool) -> Run {
+    pub fn settled(mut self, same: bool) -> Run
+        ensures { λ r. ⌜ r ≡ settled same self ⌝ }
+    {
         self.lent = Lent::all();
         self.agreed(same)
     }

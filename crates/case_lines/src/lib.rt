@@ -1,10 +1,13 @@
 // A list of cases, read from standard input line by line, and what came of it: how many lines of each operation there
-// are, and which lines differ.
+// are, and which lines differ. A line `wrong` says that the next case is wrong on purpose, and must not give what its
+// words say.
 use cases::Found;
 use cases::Line;
 ghost use mathlib.Core.Path.{_≡_};
-ghost use mathlib.Core.Bool.{cond};
-ghost use Rattle.cases.specs.Counts.{countedOf};
+ghost use Rattle.case_lines.specs.Tally.{differing, unlessFine, refutedBy, settled};
+
+// wrong: the next case is wrong on purpose
+const WRONG: u64 = 0x77_726f_6e67;
 
 // How many lines that differ are written.
 const SHOWN: u64 = 20;
@@ -30,6 +33,9 @@ pub struct Replay {
     pub counts: [u64; 24],
     // how many cases were compared
     pub cases: u64,
+    // whether a `wrong` waits for the next case, and how many cases after one were found wrong
+    pub wrong: bool,
+    pub refuted: u64,
     // how many lines differ
     pub differ: u64,
 }
@@ -94,13 +100,15 @@ impl Replay {
             whole: false,
             counts: [0u64; 24],
             cases: 0,
+            wrong: false,
+            refuted: 0,
             differ: 0,
         }
     }
 
     // With one more line that differs, which is written with a note if it is among the first.
     pub fn differs(mut self, note: &[u8]) -> Replay
-        ensures { λ r. ⌜ r .differ ≡ countedOf (self .differ) ⌝ }
+        ensures { λ r. ⌜ r ≡ differing self ⌝ }
     {
         if self.differ < SHOWN {
             let line = self.line;
@@ -112,7 +120,7 @@ impl Replay {
 
     // The same, unless the line is as it should be.
     pub fn unless(self, same: bool, note: &[u8]) -> Replay
-        ensures { λ r. ⌜ r .differ ≡ cond same (self .differ) (countedOf (self .differ)) ⌝ }
+        ensures { λ r. ⌜ r ≡ unlessFine same self ⌝ }
     {
         if same {
             return self;
@@ -120,13 +128,34 @@ impl Replay {
         self.differs(note)
     }
 
-    // With one more line that differs, unless it gives what is expected.
-    pub fn agreed(self, same: bool) -> Replay {
+    // With a case that is wrong on purpose: one more that was found so, or, if it gives what its words say, one more line
+    // that differs.
+    fn refuted(mut self, same: bool) -> Replay
+        ensures { λ r. ⌜ r ≡ refutedBy same self ⌝ }
+    {
+        self.wrong = false;
+        if same {
+            return self.differs(b" wrong on purpose and not found so");
+        }
+        self.refuted = cases::counted(self.refuted);
+        self
+    }
+
+    // With a case that gives what is expected or not: one more line that differs, unless it does, and the other way round
+    // after a `wrong`.
+    pub fn agreed(self, same: bool) -> Replay
+        ensures { λ r. ⌜ r ≡ settled same self ⌝ }
+    {
+        if self.wrong {
+            return self.refuted(same);
+        }
         self.unless(same, b"")
     }
 
     // With one more line that differs, unless a list may have it.
-    pub fn formed(self, fine: bool) -> Replay {
+    pub fn formed(self, fine: bool) -> Replay
+        ensures { λ r. ⌜ r ≡ unlessFine fine self ⌝ }
+    {
         self.unless(fine, b" malformed")
     }
 
@@ -141,6 +170,20 @@ impl Replay {
         self
     }
 
+    // With its line taken, which has an operation: a `wrong`, which has no words and of which one waits at most, or else a
+    // case.
+    fn taken(mut self) -> Replay {
+        let line = self.line;
+        if line.operation != WRONG {
+            self.case = true;
+        } else if self.wrong || 0 < line.count {
+            return self.formed(false);
+        } else {
+            self.wrong = true;
+        }
+        self
+    }
+
     // With the next byte at a place, and this line looked at: it is a case, or nothing, or malformed.
     fn sorted(mut self, line: Line, at: usize) -> Replay {
         self.line = line;
@@ -148,10 +191,7 @@ impl Replay {
         match line.found() {
             Found::Open => self,
             Found::Nothing => self,
-            Found::Case => {
-                self.case = true;
-                self
-            }
+            Found::Case => self.taken(),
             Found::Malformed => self.formed(false),
         }
     }
@@ -201,7 +241,10 @@ impl Replay {
         }
         match line.left() {
             Found::Open => self,
-            Found::Nothing => self.unless(!waits, note),
+            Found::Nothing => self.unless(!waits, note).unless(
+                !self.wrong,
+                b", and a case that is wrong on purpose is missing",
+            ),
             Found::Case => self,
             Found::Malformed => self.formed(false),
         }
@@ -230,6 +273,8 @@ impl Replay {
         self.report_each(names);
         say_number(self.cases);
         say(b" cases, ");
+        say_number(self.refuted);
+        say(b" wrong on purpose and found so, ");
         say_number(self.differ);
         say(b" differ\n");
     }

@@ -6,6 +6,7 @@ pub mod rubbish;
 
 ghost use mathlib.Core.Path.{_≡_};
 ghost use lib.ListN.{getD};
+ghost use Rattle.patterns.specs.Same.{sameFloat};
 
 // The word at a place, 0 where there is no such place.
 pub fn word_at(words: [u32; 24], at: usize) -> u32
@@ -33,6 +34,8 @@ pub fn float_at(words: [u32; 24], at: usize) -> f32 {
 }
 
 // Whether a result has the pattern at a place, where every NaN has every NaN's.
-pub fn same_at(r: f32, words: [u32; 24], at: usize) -> bool {
+pub fn same_at(r: f32, words: [u32; 24], at: usize) -> bool
+    ensures { λ s. ⌜ s ≡ sameFloat r (getD words at 0) ⌝ }
+{
     patterns::same_float(r, word_at(words, at))
 }

@@ -1,0 +1,273 @@
+//! Which cases that are wrong on purpose the fixed lists end with: cases of the list with one of
+//! the outputs changed, so that each part of what a program compares is what tells one of them.
+
+use crate::cases::{word, List};
+use crate::gamut::{chroma_words, lightness_words, Lent};
+use crate::job::{Job, FLOOR, ROOM};
+use crate::lists::step as float_step;
+use crate::pair::Pairs;
+use crate::palette_lists::{design, printed_designs};
+use crate::palettes::{Design, Palettes};
+use crate::placement::Placements;
+use crate::placement_lists::MARKED;
+use crate::search::Searches;
+use crate::search_lists::{flat, MIDST};
+use crate::standins::LEVELS;
+use std::io;
+
+/// The word at a place with its last bit changed.
+fn off(place: usize) -> impl Fn(&mut Vec<u32>) {
+    move |words| words[place] ^= 1
+}
+
+/// Another word at a place.
+fn put(place: usize, word: u32) -> impl Fn(&mut Vec<u32>) {
+    move |words| words[place] = word
+}
+
+/// Another word at a place, and none after it.
+fn last(place: usize, word: u32) -> impl Fn(&mut Vec<u32>) {
+    move |words| {
+        words.truncate(place);
+        words.push(word);
+    }
+}
+
+/// Writes colour cases with each output off by a bit, and with another zero or NaN.
+pub fn colours(list: &mut List) -> io::Result<()> {
+    for operation in ["s2l", "s2lab"] {
+        each_off(list, operation, &[200; 3])?;
+    }
+    for operation in ["sqrt", "cbrt"] {
+        each_off(list, operation, &[word(2.0)])?;
+        each_off(list, operation, &[word(-1.0)])?;
+    }
+    for operation in ["labf", "labfinv"] {
+        each_off(list, operation, &[word(1.0)])?;
+    }
+    for operation in [
+        "l2s", "l2x", "l2lab", "clamp", "gamut", "x2l", "x2lab", "lab2x", "lab2l", "chroma",
+    ] {
+        each_off(list, operation, &[word(0.5); 3])?;
+    }
+    each_off(list, "hue", &[50.0, 30.0, 40.0].map(word))?;
+    each_off(list, "hue", &[50.0, f32::NAN, 40.0].map(word))?;
+    let (cos, sin) = (list.cos[75], list.sin[75]);
+    each_off(list, "clip", &[60.0, 150.0, cos, sin].map(word))?;
+    for (v, other) in [(0.0, -0.0), (-0.0, 0.0)] {
+        let words = list.case("clamp", &[word(v); 3]);
+        list.wrong("clamp", &words, put(3, word(other)))?;
+    }
+    for (v, other) in [(f32::NAN, 0.0), (f32::NAN, f32::INFINITY), (1.0, f32::NAN)] {
+        let words = list.case("labf", &[word(v)]);
+        list.wrong("labf", &words, put(1, word(other)))?;
+    }
+    Ok(())
+}
+
+/// Writes a case once for each of its outputs, with that one off by a bit.
+fn each_off(list: &mut List, operation: &str, input: &[u32]) -> io::Result<()> {
+    let words = list.case(operation, input);
+    for place in input.len()..words.len() {
+        list.wrong(operation, &words, off(place))?;
+    }
+    Ok(())
+}
+
+/// Writes rows with another digest or number, and floats off by a bit.
+pub fn gamuts(list: &mut List) -> io::Result<()> {
+    let filled = list.row_words(84, &Lent::default());
+    list.wrong("row", &filled, put(1, 11))?;
+    list.wrong("row", &filled, off(2))?;
+    list.wrong("row", &filled, off(3))?;
+    let refused = list.row_words(LEVELS as u32, &Lent::default());
+    list.wrong("row", &refused, put(1, 10))?;
+    list.wrong("row", &refused, put(1, 0))?;
+    list.wrong("row", &refused, off(3))?;
+    list.wrong("ent", &list.entry_words(84, 75), off(2))?;
+    list.wrong("maxc", &chroma_words(50.0, 0.5, 0.5), off(3))?;
+    list.wrong("lof", &lightness_words(168), off(1))
+}
+
+/// Writes steps, placements and sweeps of which the number, the kind of the answer, the step, the
+/// first or the last hue or the digest is another.
+pub fn placements(list: &mut Placements) -> io::Result<()> {
+    for k in [7, 17] {
+        list.wrong_step(k, off(1))?;
+        list.wrong_step(k, off(2))?;
+    }
+    list.set(&MARKED)?;
+    let (placed, none, refused) = ((1, 8, 40.0), (2, 3, 51.0), (17, 3, 40.0));
+    // Hues that are all zero leave the kind of the answer to tell them.
+    list.wrong_at(placed, last(4, 0))?;
+    list.wrong_at(placed, last(4, 3))?;
+    list.wrong_at(none, |words| words.extend([0; 2]))?;
+    list.wrong_at(none, put(4, 3))?;
+    list.wrong_at(refused, put(4, 3))?;
+    list.wrong_at(refused, put(4, 0))?;
+    list.set(&[60.0; 16])?;
+    for place in [5, 20] {
+        list.wrong_at((16, 1, 60.0), off(place))?;
+    }
+    list.set(&MARKED[..3])?;
+    for place in [0, 1] {
+        list.wrong_sweep(&[40.0, 50.0], off(place))?;
+    }
+    Ok(())
+}
+
+/// Writes pairs of which the number, the kind of the answer, the chroma or the first or the last
+/// hue is another.
+pub fn pairs(list: &mut Pairs) -> io::Result<()> {
+    list.both([&[50.0; 8]; 2])?;
+    let (found, none, refused) = ((FLOOR, 1, 8), (FLOOR, 2, 5), (FLOOR, 17, 3));
+    for by in [-1, 1] {
+        let chroma = word(float_step(50.0, by));
+        list.wrong_from(found, put(5, chroma))?;
+    }
+    // Hues that are all zero leave the kind of the answer to tell them.
+    list.wrong_from(found, last(4, 0))?;
+    list.wrong_from(found, last(4, 3))?;
+    list.wrong_from(none, |words| words.extend([word(50.0), 0, 0]))?;
+    list.wrong_from(none, put(4, 3))?;
+    list.wrong_from(refused, put(4, 3))?;
+    list.wrong_from(refused, put(4, 0))?;
+    list.both([&[60.0; 16], &[61.5; 16]])?;
+    for place in [6, 21] {
+        list.wrong_from((FLOOR, 16, 1), off(place))?;
+    }
+    Ok(())
+}
+
+/// Writes calls of which the number or one field of the job after it is another, and digests.
+pub fn searches(list: &mut Searches) -> io::Result<()> {
+    list.set(&flat(4, 50.0))?;
+    wrong_starts(list)?;
+    wrong_steps(list)?;
+    let whole = (16, 0.0, ROOM);
+    for place in [3, 4, 5, 6, 7, 8, 23] {
+        list.wrong_search(whole, off(place))?;
+    }
+    list.wrong_search((17, 0.0, ROOM), put(3, 2))?;
+    list.wrong_search((17, 0.0, ROOM), put(3, 0))
+}
+
+/// Writes starts: one that is accepted and has no levels must leave the job that it was lent,
+/// which is another than the one begun in one field.
+fn wrong_starts(list: &mut Searches) -> io::Result<()> {
+    let (k, gap) = (2, 0.5);
+    let begun = Job {
+        k,
+        gap,
+        levels: 4,
+        position: 0,
+        best: None,
+        hues: [0; 16],
+    };
+    let hued = |at: usize| {
+        let mut hues = begun.hues;
+        hues[at] = 1;
+        Job { hues, ..begun }
+    };
+    let best = Some((50.0, 0, 3));
+    let gap_off = float_step(gap, 1);
+    for lent in [
+        Job { k: 3, ..begun },
+        Job {
+            gap: gap_off,
+            ..begun
+        },
+        Job { levels: 5, ..begun },
+        Job {
+            position: 1,
+            ..begun
+        },
+        Job { best, ..begun },
+        hued(0),
+        hued(15),
+    ] {
+        list.lend(lent)?;
+        list.wrong_start((k, gap), last(2, 0))?;
+    }
+    list.wrong_start((k, gap), last(2, 6))?;
+    list.wrong_start((k, gap), off(3))?;
+    list.wrong_start((17, gap), put(2, 2))?;
+    list.wrong_start((17, gap), put(2, 0))
+}
+
+/// Writes steps: at a pair that is better than the best so far, at one too close together, refused
+/// ones, and some by their digest.
+fn wrong_steps(list: &mut Searches) -> io::Result<()> {
+    let better = Job {
+        position: 3,
+        ..MIDST
+    };
+    for place in [1, 2, 3, 4, 5, 6, 8] {
+        list.lend(better)?;
+        list.wrong_step(ROOM, off(place))?;
+    }
+    // Hues that are all zero leave the best to tell them.
+    let hues = [0; 16];
+    list.lend(Job {
+        k: 1,
+        hues,
+        ..better
+    })?;
+    list.wrong_step(ROOM, |words| words.truncate(3))?;
+    list.lend(Job {
+        position: 0,
+        best: None,
+        hues,
+        ..MIDST
+    })?;
+    list.wrong_step(ROOM, |words| words.extend([word(50.0), 0, 0, 0, 0, 0]))?;
+    list.lend(MIDST)?;
+    list.wrong_step(ROOM - 1, put(1, 7))?;
+    list.wrong_step(ROOM - 1, put(1, 0))?;
+    for place in [2, 3] {
+        list.wrong_steps(5, off(place))?;
+    }
+    Ok(())
+}
+
+/// Writes derivations, validations and back-offs of which the number, a channel of the first or
+/// of the last colour, a metric, the finding, the chroma or whether it passes is another.
+pub fn palettes(list: &mut Palettes) -> io::Result<()> {
+    let [two, _] = printed_designs();
+    list.plan(two)?;
+    list.wrong_derive(100.0, put(1, 3))?;
+    for (at, bits) in [(0, 0x1_0000), (0, 0x100), (0, 1), (31, 1)] {
+        list.wrongly_derived(100.0, at, bits)?;
+    }
+    wrong_validations(list)?;
+    list.wrong_back_off(80.0, off(3))?;
+    list.wrong_back_off(80.0, put(2, 1))?;
+    list.wrong_back_off(34.9, off(3))?;
+    list.plan(Design { k: 17, ..two })?;
+    list.wrong_derive(100.0, put(1, 3))?;
+    list.wrong_derive(100.0, put(1, 0))?;
+    list.wrong_back_off(80.0, put(1, 3))?;
+    list.wrong_back_off(80.0, put(1, 0))?;
+    // This one passes in the last directions of the list.
+    list.plan(design([68, 149], &[566]))?;
+    list.wrong_back_off(70.0, put(1, 3))?;
+    list.wrong_back_off(70.0, put(2, 0))?;
+    list.wrong_back_off(70.0, off(3))?;
+    list.wrong_back_off(70.0, last(1, 3))?;
+    list.wrong_validate(1, 2, off(7))?;
+    for (at, bits) in [(0, 0x1_0000), (31, 1)] {
+        list.wrongly_backed_off(70.0, at, bits)?;
+    }
+    Ok(())
+}
+
+/// Writes validations of the colours of two hues, and refused ones.
+fn wrong_validations(list: &mut Palettes) -> io::Result<()> {
+    for place in 3..=7 {
+        list.wrong_validate(2, 4, off(place))?;
+    }
+    list.wrong_validate(2, 4, put(2, 13))?;
+    list.wrong_validate(2, 4, last(2, 13))?;
+    list.wrong_validate(2, 5, put(2, 12))?;
+    list.wrong_validate(2, 5, put(2, 0))
+}
