@@ -1,4 +1,4 @@
-//! The lines of a list of gamut cases: rows, entries, greatest chromas and lightnesses.
+//! The lines of a list of gamut cases: rows, entries, chromas found and lightnesses.
 
 use crate::cases::{word, List};
 use crate::chroma::{l_of, max_chroma};
@@ -40,7 +40,7 @@ pub fn digest(bytes: impl Iterator<Item = u8>) -> u64 {
     })
 }
 
-/// The words of the greatest chroma at a lightness in a direction.
+/// The words of the chroma found at a lightness in a direction.
 pub fn chroma_words(l: f32, cos: f32, sin: f32) -> [u32; 4] {
     [l, cos, sin, max_chroma(l, cos, sin)].map(word)
 }
@@ -101,7 +101,7 @@ impl List<'_> {
         [level, j as u32, word(entry)]
     }
 
-    /// Writes the greatest chroma at a lightness in a direction.
+    /// Writes the chroma found at a lightness in a direction.
     pub fn max_chroma(&mut self, l: f32, cos: f32, sin: f32) -> io::Result<()> {
         self.line("maxc", &chroma_words(l, cos, sin))
     }

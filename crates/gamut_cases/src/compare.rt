@@ -25,7 +25,7 @@ fn same_entry(words: [u32; 24], cos: [f32; 720], sin: [f32; 720]) -> bool {
     false
 }
 
-// Whether the greatest chroma at a lightness in a direction is the one that is expected.
+// Whether the chroma found at a lightness in a direction is the one that is expected.
 fn same_chroma(words: [u32; 24]) -> bool {
     let chroma = gamut::max_chroma(float_at(words, 0), float_at(words, 1), float_at(words, 2));
     same_at(chroma, words, 3)
