@@ -106,10 +106,9 @@ fn said_to(line: &[u8]) -> Saying
             placement: malformed(),
         };
     };
-    let row = asked.row;
     Saying {
         k,
-        placement: place(&row, length, c, k, step),
+        placement: place(&asked.row, length, c, k, step),
     }
 }
 

@@ -21,8 +21,8 @@ pub record Answered (before : List ℕ) (held : ℕ) (piece out after out' : Lis
   pub writes : Laid out (writtenFor (keptIn before held) (takenOf (keptIn before held) piece)) out' (r .written)
 
 -- calls of `answer_piece`, each with the buffer and the count that the one before it left, and then one of `answer_end`: by what the first was lent, all bytes that
--- were taken, and all bytes that were written. A caller that gives the bytes that were not taken again comes to the end of its input, since of a piece that has any byte
--- at least one is taken.
+-- were taken, and all bytes that were written. That a caller which gives again what was not taken comes to its input's end needs one thing more: of a piece that has
+-- any byte at least one is taken (`taken-some` of proofs/Taking).
 pub data Calls : List ℕ → ℕ → List ℕ → List ℕ → Type 0 where
   last : {buffer before text : List ℕ} {held r : ℕ} → Laid before (writtenAtEnd (keptIn buffer held)) text r → Calls buffer held [] (take r text)
   next : {buffer buffer' piece out out' input output : List ℕ} {held : ℕ} {r : Progress} → Answered buffer held piece out buffer' out' r → Calls buffer' (r .held) input output

@@ -150,9 +150,10 @@ fn no_row() -> [f32; 999]
 fn nothing() -> Asked
     ensures { λ r. ⌜ LineRead malformed r ⌝ }
 {
+    let row = no_row();
     Asked {
         reading: Reading::Malformed,
-        row: no_row(),
+        row,
     }
 }
 

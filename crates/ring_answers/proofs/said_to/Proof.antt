@@ -25,19 +25,16 @@ returns c =
     let s = says-malformed _ (p .read-line .ensures) (c .before .enum-told .given .1) (c .malformed .ensures) in
     record { count = s .0; said = s .1 }
 
-slice-aggregate-place : tie.Need-slice-aggregate-place
-slice-aggregate-place c = search needs
-
 place-requires : tie.Need-place-requires
 place-requires c κs =
-    let p = c .before .before .before in
+    let p = c .before .before .before .before in
     let n = entries-within _ (p .before .before .read-line .ensures) (p .reading .given .1) in
     let l : length (p .before .before .read-line .result .row) ≡ 999 = search needs in
     omega arith
 
 returns-2 : tie.Need-returns-2
 returns-2 c =
-    let p = c .before .before .before .before in
+    let p = c .before .before .before .before .before in
     let s = says-asked _ (p .before .before .read-line .ensures) (p .reading .given .1) (c .place .ensures) in
     record { count = s .0; said = s .1 }
 
@@ -50,6 +47,5 @@ said-to-spec =
     enum-told
     malformed-requires
     returns
-    slice-aggregate-place
     place-requires
     returns-2)

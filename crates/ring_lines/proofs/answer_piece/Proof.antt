@@ -1,6 +1,6 @@
 -- `ring_lines::answer_piece` meets its contract. The invariant: what is held and what is written are those of the bytes below `at`. Assumes nothing.
 use mathlib.Core.Path.{_≡_, refl}
-use Prim.Native.Nat.{_-_}
+use Prim.Native.Nat.{_-_, _≤_, _<_}
 use native.Mathlib.Omega.{arith}
 use mathlib.Core.Logic.{⊎-elim}
 use lib.ListN.{length}
@@ -40,7 +40,8 @@ loop-again c =
     let p2 = p1 .before in
     let p3 = p2 .before in
     let p4 = p3 .before .before in
-    let g = leb-true (p3 .loop .end) 65472 (p1 .if1 .taken) in
+    let t = p1 .if1 .taken in
+    let g : p3 .loop .end ≤ 65472 = omega (arith, leb-true) in
     let h = p2 .loop-test .taken in
     ⊎-elim
     (λ w. rw (w .5, w .6, w .7, w .8) (newline-taken (p3 .loop .inv) _ h refl g (w .2 .given .0) (w .3 .given .0 .1) (w .0 .taken) (w .4 .ensures)))
@@ -50,7 +51,9 @@ loop-again c =
 returns : tie.Need-returns Inv-loop μ-loop
 returns c =
     let p = c .before .before in
-    ends-full (p .loop .inv) (leb-false (p .loop .end) 65472 (c .if1 .left))
+    let t = c .if1 .left in
+    let g : 65472 < p .loop .end = omega (arith, leb-false) in
+    ends-full (p .loop .inv) g
 
 returns-2 : tie.Need-returns-2 Inv-loop μ-loop
 returns-2 c =
