@@ -1,37 +1,41 @@
 // The lines that say what validation and back-off find, and the colours.
 use crate::numbers;
 use crate::show;
+use crate::words;
 use metrics::Metrics;
 use palette::BackOff;
-use palette::BackedOff;
 use palette::Design;
 use palette::Finding;
 use palette::Validation;
 use palette::Verdict;
 use srgb::Srgb8;
 
-// Writes a finding.
+// Writes a finding, by its number and what it is.
 fn finding_line(finding: Finding) {
-    show::words(b"finding ");
-    numbers::whole(finding.number() as u64);
-    show::words(b"\n");
+    let number = finding.number();
+    words::say(b"finding ");
+    numbers::whole(number as u64);
+    words::say(b": ");
+    words::finding(number);
 }
 
 // Writes the first finding, or that there is none.
 fn verdict_line(verdict: Verdict) {
     match verdict {
-        Verdict::Passed => show::words(b"no finding\n"),
+        Verdict::Passed => words::say(b"no finding\n"),
         Verdict::Found(finding) => finding_line(finding),
     }
 }
 
 // Writes the four metrics.
 fn metric_lines(metrics: Metrics) {
-    show::words(b"at that chroma\n");
-    show::float_line(b"gap ", metrics.gap, 2);
-    show::float_line(b"spread ", metrics.spread, 2);
-    show::float_line(b"hue separation ", metrics.separation, 2);
-    show::float_line(b"least chroma ", metrics.chroma, 2);
+    show::metric_line(
+        b"colours of this design at the chroma found\ngap ",
+        metrics.gap,
+    );
+    show::metric_line(b"spread ", metrics.spread);
+    show::metric_line(b"hue separation ", metrics.separation);
+    show::metric_line(b"least chroma ", metrics.chroma);
 }
 
 // Writes what validation says.
@@ -45,17 +49,19 @@ pub fn validation(said: Validation) {
     }
 }
 
+// A colour as one number, red highest.
+fn packed(color: Srgb8) -> u64 {
+    (color.r as u64) << 16 | (color.g as u64) << 8 | color.b as u64
+}
+
 // Writes a colour.
-fn color_line(color: Srgb8, level: usize, hue: u16) {
-    show::words(b"#");
-    numbers::hex(color.r as u64, 2);
-    numbers::hex(color.g as u64, 2);
-    numbers::hex(color.b as u64, 2);
-    show::words(b", ");
+fn color_line(color: u64, level: usize, hue: u16) {
+    words::say(b"#");
+    numbers::hex(color, 6);
     show::lightness(level);
-    show::words(b", ");
-    show::degrees(hue);
-    show::words(b"\n");
+    words::say(b", ");
+    show::degrees(hue as u64);
+    show::end();
 }
 
 // The colour in a place, or black where there is no such place.
@@ -72,29 +78,64 @@ fn level_lines(k: usize, hues: [u16; 16], level: usize, colors: [Srgb8; 32], fir
     while i < 16 {
         if i < k {
             let color = color_at(colors, std::num::wrapping_add_usize(first, i));
-            color_line(color, level, hues[i]);
+            color_line(packed(color), level, hues[i]);
         }
         i += 1;
     }
 }
 
-// Writes what back-off says, and the colours where a chroma has no finding.
-pub fn backed_off(design: Design, back: BackedOff) {
-    let k = design.k;
-    let hues = design.hues;
-    let answer = back.answer;
-    let colors = back.colors;
-    match answer {
-        BackOff::Refused(why) => show::refused(why.number()),
-        BackOff::Untried => show::words(b"backed off: no chroma tried\n"),
-        BackOff::Found(finding) => {
-            show::words(b"backed off to 35: ");
-            finding_line(finding);
-        }
-        BackOff::Passed(chroma) => {
-            show::float_line(b"backed off: no finding at chroma ", chroma, show::ALL);
-            level_lines(k, hues, design.dark, colors, 0);
-            level_lines(k, hues, design.light, colors, k);
+// Writes the least chroma that colours have, by what validation says of them.
+pub fn least(said: Validation) {
+    match said {
+        Validation::Refused(why) => show::refused(why.number()),
+        Validation::Measured(metrics, _) => {
+            show::metric_line(b"least chroma of its colours ", metrics.chroma)
         }
     }
+}
+
+// Writes the colours of a design.
+pub fn lines(design: Design, colors: [Srgb8; 32]) {
+    let k = design.k;
+    let hues = design.hues;
+    level_lines(k, hues, design.dark, colors, 0);
+    level_lines(k, hues, design.light, colors, k);
+}
+
+// Writes the chroma that passed.
+fn passed(chroma: f32) -> bool {
+    show::float_line(b"no finding at chroma ", chroma);
+    true
+}
+
+// Writes that no chroma was tried.
+fn untried() -> bool {
+    words::say(b"no chroma tried\n");
+    false
+}
+
+// Writes that every chroma tried has a finding, and the last one.
+fn all_found(finding: Finding) -> bool {
+    words::say(b"every chroma down to 35 has a finding, the last one ");
+    finding_line(finding);
+    false
+}
+
+// Writes what back-off says, and says whether a chroma passed.
+fn answered(answer: BackOff) -> bool {
+    match answer {
+        BackOff::Passed(chroma) => passed(chroma),
+        BackOff::Untried => untried(),
+        BackOff::Found(finding) => all_found(finding),
+        BackOff::Refused(why) => {
+            show::refused(why.number());
+            false
+        }
+    }
+}
+
+// Writes what back-off says of a design, and says whether a chroma passed.
+pub fn passes(answer: BackOff) -> bool {
+    words::say(b"backed off, this design alone: ");
+    answered(answer)
 }

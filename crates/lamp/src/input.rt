@@ -1,105 +1,207 @@
-// What standard input says, in the form of the case lists: `ask k gap` once, and `dir j cos sin` for each direction.
-use case_directions::Directions;
-use case_directions::run::Run;
+// What standard input says: `ask k gap` once, in decimal, and `dir j cos sin` for each direction, in the form of the case lists.
+use crate::numbers;
+use crate::words;
 use case_words::float_at;
 use case_words::size_at;
+use cases::Found;
+use cases::Line;
+use lamp_input::Ask;
 use search::Settings;
 
 // ask k gap: how many hues, and how far apart the two levels must be, less 1
 const ASK: u64 = 0x61_736b;
 
-// dir j cos sin: sets direction j
+// dir j cos sin: direction j
 const DIR: u64 = 0x64_6972;
 
-// What was read.
-pub struct Input {
-    pub run: Run,
+// How many bytes the input may have, less 1.
+const ROOM: usize = 65536;
+
+// What a line can be that it may not be, by its number in `words::malformed`.
+const NEITHER: u8 = 0;
+
+const NO_ASK: u8 = 1;
+
+const ASKED_TWICE: u8 = 2;
+
+const NO_DIRECTION: u8 = 3;
+
+const GIVEN_TWICE: u8 = 4;
+
+// What the lines said.
+pub struct Said {
+    // whether one is malformed, which was written
+    wrong: bool,
     // whether it was said what is asked, and what
-    pub asked: bool,
+    asked: bool,
     pub settings: Settings,
+    // the directions, and which of them were given
+    pub cos: [f32; 720],
+    pub sin: [f32; 720],
+    given: [bool; 720],
 }
 
-impl Input {
-    // Nothing was read. A direction that is not given is a NaN, which is refused.
-    fn new() -> Input {
-        let mut run = Run::new();
-        let missing = Directions::all(0.0 / 0.0);
-        run.directions = missing;
-        Input {
-            run,
+impl Said {
+    // Nothing was said.
+    fn new() -> Said {
+        Said {
+            wrong: false,
             asked: false,
             settings: Settings { k: 0, gap: 0.0 },
+            cos: [0.0f32; 720],
+            sin: [0.0f32; 720],
+            given: [false; 720],
         }
     }
 
-    // With this come of a line.
-    fn with_run(mut self, run: Run) -> Input {
-        self.run = run;
+    // With a line that is malformed, which is written.
+    fn malformed(mut self, line: u64, why: u8) -> Said {
+        words::say(b"line ");
+        numbers::whole(line);
+        words::say(b": malformed: ");
+        words::malformed(why);
+        self.wrong = true;
         self
     }
 
-    // With what is asked, which is said once.
-    fn with_ask(mut self, words: [u32; 24]) -> Input {
-        let run = self.run;
+    // With what a line asks.
+    fn with_ask(mut self, line: u64, ask: Ask) -> Said {
         if self.asked {
-            return self.with_run(run.formed(false));
+            return self.malformed(line, ASKED_TWICE);
         }
-        let settings = Settings {
-            k: size_at(words, 0),
-            gap: float_at(words, 1),
-        };
-        self.asked = true;
-        self.settings = settings;
-        self
+        match ask {
+            Ask::Malformed => self.malformed(line, NO_ASK),
+            Ask::Asks(k, gap) => {
+                let settings = Settings { k, gap };
+                self.asked = true;
+                self.settings = settings;
+                self
+            }
+        }
     }
 
-    // With what its line says.
-    fn told(self) -> Input {
-        let run = self.run;
-        let line = run.line();
-        let words = line.words;
-        if line.operation == DIR && line.count == 3 {
-            return self.with_run(run.with_dir());
+    // With a direction, if it is one and was not given before.
+    fn with_direction(mut self, line: u64, words: [u32; 24]) -> Said {
+        let j = size_at(words, 0);
+        if j < 720 {
+            if self.given[j] {
+                return self.malformed(line, GIVEN_TWICE);
+            }
+            self.given[j] = true;
+            self.cos[j] = float_at(words, 1);
+            self.sin[j] = float_at(words, 2);
+            return self;
         }
-        if line.operation == ASK && line.count == 2 {
-            return self.with_ask(words);
-        }
-        self.with_run(run.formed(false))
+        self.malformed(line, NO_DIRECTION)
     }
 
-    // One turn: reads on, and takes the line if one has just ended that says something.
-    fn turned(self) -> Input {
-        let run = self.run;
-        let next = run.turned();
-        let read = self.with_run(next);
-        if next.has_case() {
-            return read.told();
+    // With what a case of the lists says that is no `ask`.
+    fn with_case(self, line: Line) -> Said {
+        if line.operation == DIR {
+            if line.count == 3 {
+                let said = line.words;
+                return self.with_direction(line.number, said);
+            }
+            return self.malformed(line.number, NO_DIRECTION);
         }
-        read
+        self.malformed(line.number, NEITHER)
     }
 
-    // Whether there is no more to read.
-    fn is_done(self) -> bool {
-        let run = self.run;
-        run.done()
+    // With what a line says that is no `ask`.
+    fn with_line(self, line: Line) -> Said {
+        let found = line.found();
+        match found {
+            Found::Open => self,
+            Found::Nothing => self,
+            Found::Case => self.with_case(line),
+            Found::Malformed => self.malformed(line.number, NEITHER),
+        }
     }
 
-    // Whether it was read to its end, says what is asked, and has no line that it may not have.
-    pub fn whole(self) -> bool {
-        let run = self.run;
-        let replay = run.replay;
-        let finished = replay.finished(!self.asked, b", and what is asked is missing");
-        finished.differ == 0
+    // With what a line says that is at its end, and asks this if it is an `ask`. After one that is malformed nothing is taken.
+    fn told(self, line: Line, ask: Ask) -> Said {
+        if self.wrong {
+            return self;
+        }
+        if line.operation == ASK {
+            return self.with_ask(line.number, ask);
+        }
+        self.with_line(line)
+    }
+
+    // Whether all is said and nothing is wrong; what is missing is written.
+    pub fn ready(self) -> bool {
+        let given = self.given;
+        if self.wrong {
+            return false;
+        }
+        if self.asked {
+            return all_given(given);
+        }
+        words::say(b"missing: ask k gap\n");
+        false
     }
 }
 
-// Reads to the end. A proved loop ends, so it counts turns down.
-pub fn read() -> Input {
-    let mut input = Input::new();
-    let mut turns = case_lines::TURNS;
-    while turns > 0 && !input.is_done() {
-        input = input.turned();
-        turns -= 1;
+// Writes that a direction is not given.
+fn missing(j: usize) {
+    words::say(b"missing: dir ");
+    numbers::hex(j as u64, 1);
+    words::say(b" cos sin\n");
+}
+
+// Whether every direction is given; the first that is not is written.
+fn all_given(given: [bool; 720]) -> bool {
+    let mut j = 0;
+    while j < 720 {
+        if !given[j] {
+            missing(j);
+            return false;
+        }
+        j += 1;
     }
-    input
+    true
+}
+
+// What the bytes from a place up to a place ask.
+fn ask_in(bytes: &[u8], from: usize, to: usize) -> Ask {
+    if from <= to && to <= bytes.len() {
+        return lamp_input::read_ask(&bytes[from..to]);
+    }
+    Ask::Malformed
+}
+
+// What the first bytes of a buffer say, line by line. The last newline may be missing: one is put there.
+fn said_in(bytes: &[u8], count: usize) -> Said {
+    let mut said = Said::new();
+    let mut line = Line::new();
+    let mut from = 0;
+    let mut at = 0;
+    while at < bytes.len() && at < count {
+        line = line.fed(bytes[at]);
+        if line.ended {
+            said = said.told(line, ask_in(bytes, from, at));
+            from = at + 1;
+        }
+        at += 1;
+    }
+    said.told(line.fed(b'\n'), ask_in(bytes, from, at))
+}
+
+// Nothing is taken of an input that is too long.
+fn too_long() -> Said {
+    let mut said = Said::new();
+    words::say(b"the input has more than 65535 bytes\n");
+    said.wrong = true;
+    said
+}
+
+// What standard input says, which is read to its end.
+pub fn read() -> Said {
+    let mut buffer = io::large_buffer();
+    let count = io::read_full(libc::STDIN_FILENO, &mut buffer);
+    if count == ROOM {
+        return too_long();
+    }
+    said_in(&buffer, count)
 }

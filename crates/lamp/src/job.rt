@@ -1,9 +1,11 @@
 // The search, step by step, with lines of progress.
 use crate::numbers;
 use crate::show;
+use crate::words;
 use search::Answer;
 use search::Best;
 use search::Job;
+use search::Outcome;
 use search::Settings;
 
 // How many pairs of levels there are.
@@ -29,13 +31,13 @@ fn number_of(answer: Answer) -> u8 {
 // Writes how far a job is, and its best so far.
 fn position(job: Job) {
     let best = job.best;
-    show::words(b"searched ");
+    words::say(b"searched ");
     numbers::whole(job.position as u64);
-    show::words(b" of ");
+    words::say(b" of ");
     numbers::whole(PAIRS as u64);
     match best {
-        Best::None => show::words(b": none so far\n"),
-        Best::Found(chroma, _, _) => show::float_line(b": ", chroma, show::ALL),
+        Best::None => words::say(b": none so far\n"),
+        Best::Found(chroma, _, _) => show::float_line(b": ", chroma),
     }
 }
 
@@ -46,18 +48,32 @@ fn progress(job: Job) {
     }
 }
 
+// An outcome with its number.
+fn numbered(outcome: Outcome) -> Searched {
+    let answer = outcome.answer;
+    let job = outcome.job;
+    Searched {
+        number: number_of(answer),
+        job,
+    }
+}
+
+// Takes one step of a job.
+fn take_step(table: &[f32], job: Job) -> Searched {
+    let mut work = [0u16; 2160];
+    numbered(search::step(table, &mut work, job))
+}
+
 // Takes every step of a job.
-fn take_steps(table: &[f32], work: &mut [u16], begun: Job) -> Searched {
+fn take_steps(table: &[f32], begun: Job) -> Searched {
     let mut job = begun;
     let mut turns = PAIRS;
     while turns > 0 {
-        let outcome = search::step(table, work, job);
-        let answer = outcome.answer;
-        let number = number_of(answer);
-        job = outcome.job;
-        if number != 0 {
-            return Searched { number, job };
+        let stepped = take_step(table, job);
+        if stepped.number != 0 {
+            return stepped;
         }
+        job = stepped.job;
         progress(job);
         turns -= 1;
     }
@@ -73,13 +89,10 @@ pub fn search_in(table: &[f32], settings: Settings) -> Searched {
         best: Best::None,
         hues: [0u16; 16],
     };
-    let outcome = search::start(settings, table, blank);
-    let answer = outcome.answer;
-    let job = outcome.job;
-    let number = number_of(answer);
-    if number != 0 {
-        return Searched { number, job };
+    let begun = numbered(search::start(settings, table, blank));
+    if begun.number != 0 {
+        return begun;
     }
-    let mut work = [0u16; 2160];
-    take_steps(table, &mut work, job)
+    let job = begun.job;
+    take_steps(table, job)
 }

@@ -1,32 +1,46 @@
 // A whole palette, from table to colours. Standard input says what is asked and gives the 720 directions; the program fills the
-// sRGB table, searches it with progress in lines, and writes the levels, hues and chroma found with the bound beside the chroma,
-// what validation says at that chroma, and the colours after back-off.
+// sRGB table, searches it with progress in lines, and writes the levels, hues and chroma found with the limit beside the chroma;
+// then, of that one design, what validation says of its sRGB colours at that chroma, and the colours after back-off.
 mod colors;
 mod input;
 mod job;
 mod numbers;
 mod show;
 mod table;
+mod words;
 
 use palette::Derivation;
 use palette::Design;
+use palette::Validation;
 use search::Best;
 use search::Job;
 use search::Settings;
+use srgb::Srgb8;
 
-// Validates the palette at the chroma found, backs off from there, and writes what comes of both.
-fn color_in(design: Design, chroma: f32, cos: &[f32], sin: &[f32]) {
-    let k = design.k;
+// What validation says of the colours of k hues.
+fn measured(k: usize, colors: [Srgb8; 32], cos: &[f32], sin: &[f32]) -> Validation {
+    palette::validate(k, colors, std::num::wrapping_add_usize(k, k), cos, sin)
+}
+
+// Derives a design's palette at the chroma found, and writes what validation says of it.
+fn derive(design: Design, chroma: f32, cos: &[f32], sin: &[f32]) {
     let derived = palette::derive(design, chroma, cos, sin);
     let answer = derived.answer;
-    let derived_colors = derived.colors;
+    let colors = derived.colors;
     match answer {
         Derivation::Refused(why) => show::refused(why.number()),
-        Derivation::Derived => {
-            let count = std::num::wrapping_add_usize(k, k);
-            colors::validation(palette::validate(k, derived_colors, count, cos, sin));
-            colors::backed_off(design, palette::back_off(design, chroma, cos, sin));
-        }
+        Derivation::Derived => colors::validation(measured(design.k, colors, cos, sin)),
+    }
+}
+
+// Backs off from the chroma found, and writes what comes of it: of the chroma that passed, what is measured and the colours.
+fn back_off(design: Design, chroma: f32, cos: &[f32], sin: &[f32]) {
+    let back = palette::back_off(design, chroma, cos, sin);
+    let answer = back.answer;
+    let colors = back.colors;
+    if colors::passes(answer) {
+        colors::least(measured(design.k, colors, cos, sin));
+        colors::lines(design, colors);
     }
 }
 
@@ -36,7 +50,7 @@ fn finish(found: Job, cos: &[f32], sin: &[f32]) {
     let best = found.best;
     let hues = found.hues;
     match best {
-        Best::None => show::words(b"none\n"),
+        Best::None => show::none(settings),
         Best::Found(chroma, dark, light) => {
             let design = Design {
                 k: settings.k,
@@ -45,7 +59,9 @@ fn finish(found: Job, cos: &[f32], sin: &[f32]) {
                 hues,
             };
             show::found(design, chroma);
-            color_in(design, chroma, cos, sin);
+            show::limit(settings, chroma);
+            derive(design, chroma, cos, sin);
+            back_off(design, chroma, cos, sin);
         }
     }
 }
@@ -62,27 +78,22 @@ fn search_in(table: &[f32], settings: Settings, cos: &[f32], sin: &[f32]) {
 }
 
 // Fills the table by these directions, searches it, and writes what is found.
-fn run(settings: Settings, cos: [f32; 720], sin: [f32; 720]) {
+fn run(settings: Settings, cos: &[f32], sin: &[f32]) {
     let mut entries = [0.0f32; 121680];
-    let filled = table::fill(&mut entries, &cos, &sin);
-    if filled != 0 {
-        show::refused(filled);
-        return;
+    let filled = table::fill(&mut entries, cos, sin);
+    if show::filled(filled) {
+        search_in(&entries, settings, cos, sin);
     }
-    show::words(b"filled 169 levels of 720 hues\n");
-    search_in(&entries, settings, &cos, &sin);
 }
 
-// Reads what is asked, and runs where every line is as it should be.
+// Reads what is asked, and runs where every line is as it should be and none is missing.
 fn main() {
     let read = input::read();
-    if read.whole() {
+    if read.ready() {
         let settings = read.settings;
-        let came = read.run;
-        let all = came.directions;
-        let cos = all.cos;
-        let sin = all.sin;
+        let cos = read.cos;
+        let sin = read.sin;
         show::asked(settings);
-        run(settings, cos, sin);
+        run(settings, &cos, &sin);
     }
 }

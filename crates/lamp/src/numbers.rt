@@ -1,7 +1,8 @@
 // Numbers as text, written to standard output.
+use crate::words;
 
 // What 1 is in a fixed-point number.
-const ONE: u64 = 0x1_0000_0000;
+const ONE: u64 = 0x100_0000_0000;
 
 // A number in decimal.
 pub fn whole(n: u64) {
@@ -11,11 +12,8 @@ pub fn whole(n: u64) {
 // So many halves, with one decimal.
 pub fn halves(n: u64) {
     whole(n / 2);
-    if n % 2 == 0 {
-        io::write_all(libc::STDOUT_FILENO, b".0");
-    } else {
-        io::write_all(libc::STDOUT_FILENO, b".5");
-    }
+    words::say(b".");
+    whole(n % 2 * 5);
 }
 
 // A number in hexadecimal, with so many digits at least.
@@ -23,19 +21,19 @@ pub fn hex(n: u64, digits: usize) {
     io::print_hex(libc::STDOUT_FILENO, n, digits);
 }
 
-// The float with these bits, if it is below 65536, in units of 2^-32. From 2^-9 on every f32 is a whole number of them; what is
+// The float with these bits, if it is below 65536, in units of 2^-40. From 2^-17 on every f32 is a whole number of them; what is
 // smaller is rounded down.
 fn fixed(bits: u32) -> u64 {
     let exponent = bits / 0x80_0000;
     let fraction = (0x80_0000 + bits % 0x80_0000) as u64;
-    if exponent < 95 {
+    if exponent < 87 {
         return 0;
     }
-    if exponent < 118 {
-        return fraction >> (118 - exponent);
+    if exponent < 110 {
+        return fraction >> (110 - exponent);
     }
     if exponent < 143 {
-        return fraction << (exponent - 118);
+        return fraction << (exponent - 110);
     }
     0
 }
@@ -55,16 +53,37 @@ fn decimals(n: u64, most: usize) {
     }
 }
 
-// A float by its bits, and before them in decimal, rounded down to so many decimals, if it is from plus 0 to below 65536.
+// A fixed-point number in decimal, rounded down to so many decimals.
+fn fixed_point(n: u64, most: usize) {
+    whole(n / ONE);
+    words::say(b".");
+    decimals(n, most);
+}
+
+// A float in decimal, rounded down to so many decimals, if it is from plus 0 to below 65536, and nothing if it is not.
+pub fn decimal(x: f32, most: usize) {
+    let bits = patterns::pattern_of(x);
+    if bits < 0x4780_0000 {
+        fixed_point(fixed(bits), most);
+    }
+}
+
+// A float in decimal, if it is in that range, and by its bits.
 pub fn float(x: f32, most: usize) {
     let bits = patterns::pattern_of(x);
     if bits < 0x4780_0000 {
-        let n = fixed(bits);
-        whole(n / ONE);
-        io::write_all(libc::STDOUT_FILENO, b".");
-        decimals(n, most);
-        io::write_all(libc::STDOUT_FILENO, b", ");
+        fixed_point(fixed(bits), most);
+        words::say(b", ");
     }
-    io::write_all(libc::STDOUT_FILENO, b"bits ");
+    words::say(b"bits ");
     hex(bits as u64, 8);
+}
+
+// The same, or `none` for plus infinity.
+pub fn float_or_none(x: f32, most: usize) {
+    if patterns::pattern_of(x) == 0x7f80_0000 {
+        words::say(b"none");
+        return;
+    }
+    float(x, most);
 }

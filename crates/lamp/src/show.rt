@@ -1,66 +1,85 @@
-// The lines that say what is asked and what the search found, and what other lines are made of.
+// The lines that say what is asked, what the search found and what no other can reach, and what other lines are made of.
 use crate::numbers;
+use crate::words;
 use audit::Ceiling;
 use palette::Design;
+use placement_checks::Stepping;
 use search::Settings;
 
 // As many decimals as a fixed-point number can have, so that every one is written.
-pub const ALL: usize = 32;
+pub const ALL: usize = 40;
 
-// Writes bytes to standard output.
-pub fn words(bytes: &[u8]) {
-    io::write_all(libc::STDOUT_FILENO, bytes);
+// Ends a line.
+pub fn end() {
+    words::say(b"\n");
 }
 
 // Writes a line of words and a float.
-pub fn float_line(bytes: &[u8], x: f32, most: usize) {
-    words(bytes);
-    numbers::float(x, most);
-    words(b"\n");
+pub fn float_line(bytes: &[u8], x: f32) {
+    words::say(bytes);
+    numbers::float(x, ALL);
+    end();
 }
 
-// Writes the number of a refusal.
+// Writes a line of words and a metric, rounded down to two decimals.
+pub fn metric_line(bytes: &[u8], x: f32) {
+    words::say(bytes);
+    numbers::float_or_none(x, 2);
+    end();
+}
+
+// Writes that a call was refused, by its number and why.
 pub fn refused(number: u8) {
-    words(b"refused,");
+    words::say(b"refused,");
     numbers::whole(number as u64);
-    words(b"\n");
+    words::say(b": ");
+    words::refusal(number);
 }
 
 // Writes what is asked.
 pub fn asked(settings: Settings) {
-    words(b"asked: hues ");
+    words::say(b"asked: hues ");
     numbers::whole(settings.k as u64);
-    float_line(b", gap ", settings.gap, ALL);
+    float_line(b", gap ", settings.gap);
+}
+
+// Writes that the table is filled and says so, or the number of a refusal.
+pub fn filled(number: u8) -> bool {
+    if number != 0 {
+        refused(number);
+        return false;
+    }
+    words::say(b"filled 169 levels of 720 hues\n");
+    true
 }
 
 // Writes the lightness of a level.
 pub fn lightness(level: usize) {
-    words(b"lightness ");
+    words::say(b", lightness ");
     numbers::halves(std::num::wrapping_add_u64(level as u64, 24));
 }
 
-// Writes a hue in degrees.
-pub fn degrees(hue: u16) {
-    numbers::halves(hue as u64);
-    words(b" degrees");
+// Writes so many half degrees.
+pub fn degrees(halves: u64) {
+    numbers::halves(halves);
+    words::say(b" degrees");
 }
 
 // Writes a level.
 fn level_line(bytes: &[u8], level: usize) {
-    words(bytes);
+    words::say(bytes);
     numbers::whole(level as u64);
-    words(b", ");
     lightness(level);
-    words(b"\n");
+    end();
 }
 
 // Writes a hue.
 fn hue_line(hue: u16) {
-    words(b"hue ");
+    words::say(b"hue ");
     numbers::whole(hue as u64);
-    words(b", ");
-    degrees(hue);
-    words(b"\n");
+    words::say(b", ");
+    degrees(hue as u64);
+    end();
 }
 
 // Writes the first k hues.
@@ -74,13 +93,52 @@ fn hue_lines(k: usize, hues: [u16; 16]) {
     }
 }
 
-// Writes the bound beside a chroma.
-fn bound(chroma: f32) {
+// Writes the hues that are meant, so many at least so many half degrees apart. One hue has no other.
+fn hues_apart(k: usize, step: usize) {
+    if k == 1 {
+        words::say(b"single hue");
+        return;
+    }
+    numbers::whole(k as u64);
+    words::say(b" hues at least ");
+    degrees(step as u64);
+    words::say(b" apart");
+}
+
+// Writes which hues and levels are meant: those that are asked. A hue count that has no step is refused.
+fn those_asked(settings: Settings) {
+    let k = settings.k;
+    let step = placement_checks::step_for(k);
+    words::say(b": in this table no ");
+    match step {
+        Stepping::Is(halves) => hues_apart(k, halves),
+        Stepping::Declined(why) => refused(why.number()),
+    }
+    words::say(b", on two levels at least ");
+    numbers::decimal(settings.gap + 1.0, ALL);
+}
+
+// Writes what no hues that are asked exceed on levels that are asked.
+fn limit_line(settings: Settings, most: f32) {
+    words::say(b"limit");
+    those_asked(settings);
+    float_line(b" apart, can have a common chroma above ", most);
+}
+
+// Writes the limit beside a chroma that was found.
+pub fn limit(settings: Settings, chroma: f32) {
     let ceiling = audit::bound(chroma);
     match ceiling {
-        Ceiling::Next(most) => float_line(b"no palette of this panel has more than ", most, ALL),
+        Ceiling::Next(most) => limit_line(settings, most),
         Ceiling::Refused(why) => refused(why.number()),
     }
+}
+
+// Writes that no hues that are asked reach 35 on levels that are asked.
+pub fn none(settings: Settings) {
+    words::say(b"none");
+    those_asked(settings);
+    words::say(b" apart, can have a common chroma of 35 or more\n");
 }
 
 // Writes what a search found.
@@ -89,6 +147,5 @@ pub fn found(design: Design, chroma: f32) {
     level_line(b"dark level ", design.dark);
     level_line(b"light level ", design.light);
     hue_lines(design.k, hues);
-    float_line(b"chroma ", chroma, ALL);
-    bound(chroma);
+    float_line(b"chroma ", chroma);
 }

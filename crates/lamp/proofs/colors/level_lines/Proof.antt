@@ -1,6 +1,6 @@
 -- `lamp::colors::level_lines` is safe and ends: it goes over the sixteen hues. Assumes nothing.
-use Prim.Native.Nat.{_≤_, _-_}
 use native.Mathlib.Omega.{arith}
+use Prim.Native.Nat.{_≤_, _-_}
 use borrow.Author.Needs.{needs}
 use Rattle.lamp.proofs.colors.level_lines.Statement.{statement}
 use Rattle.lamp.proofs.colors.level_lines.Tie as tie
@@ -20,8 +20,11 @@ wrapping-add-usize-requires c κs = search needs
 color-at-requires : tie.Need-color-at-requires Inv-loop μ-loop
 color-at-requires c κs = search needs
 
+packed-requires : tie.Need-packed-requires Inv-loop μ-loop
+packed-requires c κs = search needs
+
 mul-color-line : tie.Need-mul-color-line Inv-loop μ-loop
-mul-color-line c = search needs
+mul-color-line c = omega arith
 
 array-read-color-line : tie.Need-array-read-color-line Inv-loop μ-loop
 array-read-color-line c = omega arith
@@ -50,6 +53,7 @@ level-lines-spec =
     loop-holds
     wrapping-add-usize-requires
     color-at-requires
+    packed-requires
     mul-color-line
     array-read-color-line
     color-line-requires

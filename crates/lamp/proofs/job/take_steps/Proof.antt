@@ -1,28 +1,20 @@
 -- `lamp::job::take_steps` is safe and ends: the measure is the number of steps that are left. Assumes nothing.
-use mathlib.Core.Path.{_≡_, refl}
 use native.Mathlib.Omega.{arith}
-use lib.ListN.{length}
 use borrow.Author.Needs.{needs}
 use Rattle.lamp.proofs.job.take_steps.Statement.{statement}
 use Rattle.lamp.proofs.job.take_steps.Tie as tie
 
 abbrev Inv-loop : tie.InvT-loop
-Inv-loop table work₀ job₀ turns₀ work job turns = length work ≡ length work₀
+Inv-loop table job₀ turns₀ job turns = Unit {0}
 
 abbrev μ-loop : tie.MeasureT-loop
-μ-loop table work₀ job₀ turns₀ work job turns = turns
+μ-loop table job₀ turns₀ job turns = turns
 
 loop-holds : tie.Need-loop-holds Inv-loop μ-loop
-loop-holds c = refl
+loop-holds c = tt
 
-step-requires : tie.Need-step-requires Inv-loop μ-loop
-step-requires c κs = search needs
-
-number-of-requires : tie.Need-number-of-requires Inv-loop μ-loop
-number-of-requires c κs = search needs
-
-same-length : tie.Need-same-length Inv-loop μ-loop
-same-length c = omega arith
+take-step-requires : tie.Need-take-step-requires Inv-loop μ-loop
+take-step-requires c κs = search needs
 
 returns : tie.Need-returns Inv-loop μ-loop
 returns c = tt
@@ -37,10 +29,7 @@ loop-less : tie.Need-loop-less Inv-loop μ-loop
 loop-less c = omega arith
 
 loop-again : tie.Need-loop-again Inv-loop μ-loop
-loop-again c = omega arith
-
-same-length-2 : tie.Need-same-length-2 Inv-loop μ-loop
-same-length-2 c = omega arith
+loop-again c = tt
 
 returns-2 : tie.Need-returns-2 Inv-loop μ-loop
 returns-2 c = tt
@@ -52,13 +41,10 @@ take-steps-spec =
     Inv-loop
     μ-loop
     loop-holds
-    step-requires
-    number-of-requires
-    same-length
+    take-step-requires
     returns
     progress-requires
     sub-turns
     loop-less
     loop-again
-    same-length-2
     returns-2)
