@@ -1,5 +1,5 @@
 -- What is kept of a line in a buffer: one more byte, a newline, a piece, and the answer. Assumes nothing.
-use mathlib.Core.Path.{_≡_, refl, ap, _∙_}
+use mathlib.Core.Path.{_≡_, refl, sym, ap, _∙_}
 use mathlib.Core.Bool.{Bool, true, false, cond}
 use mathlib.Core.List.{List, [], _∷_, _++_}
 use Prim.Native.Nat.{ℕ, _+_, _-_, _≤_, _<_, min}
@@ -14,6 +14,7 @@ use Rattle.text.proofs.Put.{put-length, put-front}
 use Rattle.ring_answers.specs.Answers.{answerBytes, answerOf}
 use Rattle.ring_answers.proofs.Writing.{bytes-few, answer-few}
 use Rattle.ring_lines.specs.Pieces.{Kept, bytes, longer, keptOf, keep, fed, answerKept, keptAfter, keptIn, heldWith, heldFed, bufferFed, heldAfter, bufferAfter}
+use Rattle.ring_lines.specs.Promised.{Held}
 
 -- ---- one more byte
 module _ (buffer : List ℕ) (long : length buffer ≡ 4096) (held b : ℕ) where
@@ -44,7 +45,7 @@ module _ (buffer : List ℕ) (long : length buffer ≡ 4096) (held b : ℕ) wher
           rw (lt-leb (length (take held buffer ++ b ∷ [])) 4096 w)
 
   -- what is kept then
-  pub kept-with : keptIn (putIn buffer held (b ∷ [])) (heldWith held) ≡ keep b (keptIn buffer held)
+  kept-with : keptIn (putIn buffer held (b ∷ [])) (heldWith held) ≡ keep b (keptIn buffer held)
   kept-with = go (ltb held 4096) refl
     where
       go : (t : Bool) → ltb held 4096 ≡ t → keptIn (putIn buffer held (b ∷ [])) (heldWith held) ≡ keep b (keptIn buffer held)
@@ -56,6 +57,9 @@ module _ (buffer : List ℕ) (long : length buffer ≡ 4096) (held b : ℕ) wher
           let h = ltb-false held 4096 e in
           let m : min (held + 1) 4097 ≡ 4097 = omega arith in
           ap (keptIn (putIn buffer held (b ∷ []))) m ∙ kept-full (putIn buffer held (b ∷ [])) h
+
+  pub kept-held : {after : List ℕ} {r : ℕ} → Held buffer held b after r → keptIn after r ≡ keep b (keptIn buffer held)
+  kept-held {after} {r} h = ap (λ (l : List ℕ). keptIn l r) (h .holds) ∙ ap (keptIn (putIn buffer held (b ∷ []))) (h .counts) ∙ kept-with
 
   -- and after any byte
   kept-fed : keptIn (bufferFed b buffer held) (heldFed b held) ≡ fed b (keptIn buffer held)
@@ -87,6 +91,13 @@ unfolding bufferAfter heldAfter keptAfter
 kept-after buffer held [] l = refl
 kept-after buffer held (b ∷ piece) l =
     kept-after (bufferFed b buffer held) (heldFed b held) piece (fed-long b buffer held ∙ l) ∙ ap (λ (k : Kept). keptAfter k piece) (kept-fed buffer l held b)
+
+-- of whatever length the buffer after it is known to be
+pub kept-so : {after : List ℕ} {r : ℕ} (buffer : List ℕ) (held : ℕ) (piece : List ℕ) → after ≡ bufferAfter buffer held piece → r ≡ heldAfter held piece → length after ≡ 4096
+    → keptIn after r ≡ keptAfter (keptIn buffer held) piece
+kept-so {after} {r} buffer held piece e f long =
+    let l : length buffer ≡ 4096 = sym (ap length e ∙ after-long buffer held piece) ∙ long in
+    ap (λ (l : List ℕ). keptIn l r) e ∙ ap (keptIn (bufferAfter buffer held piece)) f ∙ kept-after buffer held piece l
 
 -- ---- the answer to a line that is held whole, and to a longer one
 pub answer-short : (buffer : List ℕ) (held : ℕ) {before after : List ℕ} {r : ℕ} → held ≤ 4096 → Laid before (answerOf (take held buffer)) after r

@@ -3,19 +3,18 @@ use mathlib.Core.Path.{_≡_, refl, sym, ap, _∙_}
 use mathlib.Core.Bool.{Bool, true, false, cond}
 use mathlib.Core.List.{List, [], _∷_, _++_, append-nil}
 use Prim.Native.Nat.{ℕ, zero, suc, _+_, _≤_, _<_}
-use native.Mathlib.Nat.{zero-add, add-zero}
+use native.Mathlib.Nat.{zero-add}
 use native.Mathlib.Numerals.{add-one}
 use native.Mathlib.Omega.{arith}
 use lib.Dec.{leb, eqb}
-use lib.ListN.{length, take, drop, getD, length-append, length-drop, drop-of-length-le}
+use lib.ListN.{length, take, drop, getD, length-append, drop-of-length-le}
 use lib.Seq.{take-suc, drop-cons}
 use borrow.Author.Tests.{eq-eqb, ne-eqb, le-leb, lt-leb}
-use Rattle.text.specs.Put.{PutIn, over, Laid}
-use Rattle.text.proofs.Put.{over-nil, laid-more}
-use Rattle.ring_lines.specs.declared.Progress.{Progress}
-use Rattle.ring_lines.specs.Pieces.{Kept, bytes, longer, fed, answerKept, writtenAt, keptAfter, writtenFor, writtenAtEnd, keptIn, heldWith, heldFed, bufferFed, heldAfter, bufferAfter, takenFrom}
+use Rattle.text.specs.Put.{PutIn, Laid}
+use Rattle.text.proofs.Put.{over-nil, laid-more, laid-long}
+use Rattle.ring_lines.specs.Pieces.{Kept, bytes, longer, fed, answerKept, writtenAt, keptAfter, writtenFor, writtenAtEnd, keptIn, heldFed, bufferFed, heldAfter, bufferAfter, takenFrom}
 use Rattle.ring_lines.specs.Promised.{Held, Answered}
-use Rattle.ring_lines.proofs.Keeping.{after-long, kept-after, kept-few}
+use Rattle.ring_lines.proofs.Keeping.{kept-so, kept-few}
 use Rattle.ring_lines.proofs.Stream.{kept-both, written-both}
 
 -- ---- how many bytes are taken: no more than there are, and some where there is any
@@ -77,35 +76,47 @@ none-taken before held piece out =
 
 module _ {before : List ℕ} {held : ℕ} {piece out buffer : List ℕ} {count : ℕ} {text : List ℕ} {end at : ℕ}
     (s : AsFar before held piece out buffer count text end at) where
-  -- what is kept
-  kept : Kept
+  -- what is kept, and what is written
+  abbrev kept : Kept
   kept = keptAfter (keptIn before held) (take at piece)
 
+  abbrev written : List ℕ
+  written = writtenFor (keptIn before held) (take at piece)
+
   kept-here : length buffer ≡ 4096 → keptIn buffer count ≡ kept
-  unfolding kept
-  kept-here long =
-      let l : length before ≡ 4096 = sym (ap length (s .keeps) ∙ after-long before held (take at piece)) ∙ long in
-      ap (λ (l : List ℕ). keptIn l count) (s .keeps) ∙ ap (keptIn (bufferAfter before held (take at piece))) (s .holds) ∙ kept-after before held (take at piece) l
+  kept-here long = kept-so before held (take at piece) (s .keeps) (s .holds) long
 
   module _ (b : ℕ) (inside : at < length piece) (is : getD piece at 0 ≡ b) (room : end ≤ 65472) where
     one-more : take (at + 1) piece ≡ take at piece ++ b ∷ []
     one-more = rw (add-one, ← is) (take-suc piece at 0 inside)
 
+    one-less : drop at piece ≡ b ∷ drop (at + 1) piece
+    one-less = rw (add-one, ← is) (drop-cons piece at 0 inside)
+
+    kept-more : keptAfter (keptIn before held) (take (at + 1) piece) ≡ fed b kept
+    unfolding keptAfter
+    kept-more = ap (keptAfter (keptIn before held)) one-more ∙ kept-both (keptIn before held) (take at piece) (b ∷ [])
+
+    written-more : writtenFor (keptIn before held) (take (at + 1) piece) ≡ written ++ writtenAt b kept
+    unfolding writtenFor
+    written-more =
+        ap (writtenFor (keptIn before held)) one-more
+        ∙ written-both (keptIn before held) (take at piece) (b ∷ [])
+        ∙ ap (λ (l : List ℕ). written ++ l) (append-nil (writtenAt b kept))
+
+    rest-more : (end' : ℕ) → end' ≡ end + length (writtenAt b kept)
+        → takenFrom kept end (drop at piece) ≡ suc (takenFrom (keptAfter (keptIn before held) (take (at + 1) piece)) end' (drop (at + 1) piece))
+    rest-more end' e = ap (takenFrom kept end) one-less ∙ one-fits kept end b (drop (at + 1) piece) room ∙ rw (kept-more, e)
+
     -- any byte
     one-taken : {buffer' : List ℕ} {count' : ℕ} {text' : List ℕ} {end' : ℕ} → count' ≡ heldFed b count → buffer' ≡ bufferFed b buffer count
-        → Laid out (writtenFor (keptIn before held) (take at piece) ++ writtenAt b kept) text' end' → AsFar before held piece out buffer' count' text' end' (at + 1)
-    unfolding kept heldAfter bufferAfter writtenFor keptAfter
+        → Laid out (written ++ writtenAt b kept) text' end' → AsFar before held piece out buffer' count' text' end' (at + 1)
+    unfolding heldAfter bufferAfter
     one-taken {buffer'} {count'} {text'} {end'} h k w =
-        let written : writtenFor (keptIn before held) (take (at + 1) piece) ≡ writtenFor (keptIn before held) (take at piece) ++ writtenAt b kept
-        = ap (writtenFor (keptIn before held)) one-more
-        ∙ written-both (keptIn before held) (take at piece) (b ∷ [])
-        ∙ ap (λ (l : List ℕ). writtenFor (keptIn before held) (take at piece) ++ l) (append-nil (writtenAt b kept)) in
-        let then : keptAfter (keptIn before held) (take (at + 1) piece) ≡ fed b kept = ap (keptAfter (keptIn before held)) one-more ∙ kept-both (keptIn before held) (take at piece) (b ∷ []) in
-        let d : drop at piece ≡ b ∷ drop (at + 1) piece = rw (add-one, ← is) (drop-cons piece at 0 inside) in
-        let e : end' ≡ end + length (writtenAt b kept) = let u = s .writes .counts in let v = w .counts in
-        omega (arith, length-append (writtenFor (keptIn before held) (take at piece)) (writtenAt b kept)) in
-        let t : takenFrom kept end (drop at piece) ≡ suc (takenFrom (keptAfter (keptIn before held) (take (at + 1) piece)) end' (drop (at + 1) piece))
-        = ap (takenFrom kept end) d ∙ one-fits kept end b (drop (at + 1) piece) room ∙ rw (then, e) in
+        let u = s .writes .counts in
+        let v = w .counts in
+        let r = s .rest in
+        let t = rest-more end' (omega (arith, length-append written (writtenAt b kept))) in
         record {
           within = omega arith;
           holds = h ∙ ap (heldFed b) (s .holds) ∙ sym (ap (heldAfter held) one-more ∙ held-both held (take at piece) (b ∷ []));
@@ -113,36 +124,29 @@ module _ {before : List ℕ} {held : ℕ} {piece out buffer : List ℕ} {count :
               ∙ ap (λ (l : List ℕ). bufferFed b l count) (s .keeps)
               ∙ ap (bufferFed b (bufferAfter before held (take at piece))) (s .holds)
               ∙ sym (ap (bufferAfter before held) one-more ∙ buffer-both before held (take at piece) (b ∷ []));
-          writes = rw written w;
-          rest = let r = s .rest in omega arith;
+          writes = rw written-more w;
+          rest = omega arith;
         }
 
     -- a newline
     pub newline-taken : {text' : List ℕ} {r : ℕ} → length buffer ≡ 4096 → length text ≡ 65536 → b ≡ 10 → PutIn text end (answerKept (keptIn buffer count)) text' r
         → AsFar before held piece out buffer 0 text' r (at + 1)
-    unfolding heldFed bufferFed writtenAt over
-    newline-taken {text'} {r} long wide e p =
+    unfolding heldFed bufferFed writtenAt
+    newline-taken long wide e p =
         let few = kept-few (keptIn buffer count) in
         let n = s .writes .counts in
-        let m : length text ≡ length (writtenFor (keptIn before held) (take at piece)) + length (drop (length (writtenFor (keptIn before held) (take at piece))) out)
-        = ap length (s .writes .holds) ∙ length-append (writtenFor (keptIn before held) (take at piece)) (drop (length (writtenFor (keptIn before held) (take at piece))) out) in
-        let fits : length (writtenFor (keptIn before held) (take at piece) ++ answerKept (keptIn buffer count)) ≤ length out
-        = omega (
-          arith,
-          length-append (writtenFor (keptIn before held) (take at piece)) (answerKept (keptIn buffer count)),
-          length-drop (length (writtenFor (keptIn before held) (take at piece))) out,
-        ) in
+        let m = laid-long (s .writes) in
+        let fits : length (written ++ answerKept (keptIn buffer count)) ≤ length out = omega (arith, length-append written (answerKept (keptIn buffer count))) in
         one-taken (rw (eq-eqb b 10 e)) (rw (eq-eqb b 10 e)) (rw (eq-eqb b 10 e, ← kept-here long) (laid-more fits (s .writes) p))
 
     -- any other byte
     pub other-taken : {buffer' : List ℕ} {r : ℕ} → (b ≡ 10 → ⊥) → Held buffer count b buffer' r → AsFar before held piece out buffer' r text end (at + 1)
     unfolding heldFed bufferFed writtenAt
     other-taken e h =
-        one-taken (h .counts ∙ rw (ne-eqb b 10 e)) (h .holds ∙ rw (ne-eqb b 10 e)) (rw (ne-eqb b 10 e, append-nil (writtenFor (keptIn before held) (take at piece))) (s .writes))
+        one-taken (h .counts ∙ rw (ne-eqb b 10 e)) (h .holds ∙ rw (ne-eqb b 10 e)) (rw (ne-eqb b 10 e, append-nil written) (s .writes))
 
   -- no other is taken, since there is none or its answer might not fit
   all-taken : takenFrom kept end (drop at piece) ≡ 0 → Answered before held piece out buffer text (record { taken = at; held = count; written = end })
-  unfolding kept
   all-taken z =
       let e : at ≡ takenFrom (keptIn before held) 0 piece = let r = s .rest in omega arith in
       record {

@@ -139,7 +139,7 @@ fn head_of(line: &[u8]) -> Head
     }
 }
 
-// No entries.
+// A row of zeros.
 fn no_row() -> [f32; 999]
     ensures { λ r. ⌜ r ≡ noRow ⌝ }
 {

@@ -164,10 +164,10 @@ laid-more {a} {b} {c} {m} {r} {xs} {ys} h l q =
 pub laid-front : {a b xs : List ℕ} {r : ℕ} → Laid a xs b r → take r b ≡ xs
 laid-front {a} {b} {xs} {r} l = ap (λ (k : ℕ). take k b) (l .counts) ∙ ap (take (length xs)) (l .holds) ∙ over-front xs a
 
--- and it has at least as many bytes
-pub laid-within : {a b xs : List ℕ} {r : ℕ} → Laid a xs b r → r ≤ length b
+-- how long it is: as long as it was where they have room, and no shorter than they are
+pub laid-long : {a b xs : List ℕ} {r : ℕ} → Laid a xs b r → length b ≡ length xs + (length a - length xs)
 unfolding over
-laid-within {a} {b} {xs} {r} l =
-    let n = l .counts in
-    let m : length b ≡ length (xs ++ drop (length xs) a) = ap length (l .holds) in
-    omega (arith, length-append xs (drop (length xs) a))
+laid-long {a} {b} {xs} l = ap length (l .holds) ∙ length-append xs (drop (length xs) a) ∙ ap (λ (k : ℕ). length xs + k) (length-drop (length xs) a)
+
+pub laid-within : {a b xs : List ℕ} {r : ℕ} → Laid a xs b r → r ≤ length b
+laid-within l = let n = l .counts in let m = laid-long l in omega arith

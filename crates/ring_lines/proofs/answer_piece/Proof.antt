@@ -1,5 +1,5 @@
 -- `ring_lines::answer_piece` meets its contract. The invariant: what is held and what is written are those of the bytes below `at`. Assumes nothing.
-use mathlib.Core.Path.{_≡_, refl}
+use mathlib.Core.Path.{refl}
 use Prim.Native.Nat.{_-_, _≤_, _<_}
 use native.Mathlib.Omega.{arith}
 use mathlib.Core.Logic.{⊎-elim}

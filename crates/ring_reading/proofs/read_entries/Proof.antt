@@ -1,6 +1,6 @@
 -- `ring_reading::read_entries` meets its contract. The invariant: i entries are read, and what the fields that are left must be is known. Assumes nothing.
 use mathlib.Core.Path.{_≡_, refl}
-use Prim.Native.Nat.{_-_, _≤_, _<_}
+use Prim.Native.Nat.{_-_}
 use native.Mathlib.Omega.{arith}
 use borrow.Author.Needs.{needs}
 use Rattle.limits.specs.Taken.{f32Of}
