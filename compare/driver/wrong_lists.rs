@@ -119,15 +119,16 @@ pub fn placements(list: &mut Placements) -> io::Result<()> {
 /// Writes pairs of which the number, the kind of the answer, the chroma or the first or the last
 /// hue is another.
 pub fn pairs(list: &mut Pairs) -> io::Result<()> {
+    // A chroma and hues that are all zero leave the kind of the answer to tell them.
+    list.both([&[0.0; 8]; 2])?;
+    list.wrong_from((0.0, 1, 8), last(4, 0))?;
+    list.wrong_from((0.0, 1, 8), last(4, 3))?;
     list.both([&[50.0; 8]; 2])?;
     let (found, none, refused) = ((FLOOR, 1, 8), (FLOOR, 2, 5), (FLOOR, 17, 3));
     for by in [-1, 1] {
         let chroma = word(float_step(50.0, by));
         list.wrong_from(found, put(5, chroma))?;
     }
-    // Hues that are all zero leave the kind of the answer to tell them.
-    list.wrong_from(found, last(4, 0))?;
-    list.wrong_from(found, last(4, 3))?;
     list.wrong_from(none, |words| words.extend([word(50.0), 0, 0]))?;
     list.wrong_from(none, put(4, 3))?;
     list.wrong_from(refused, put(4, 3))?;

@@ -1,7 +1,8 @@
 // Replays a list of colour cases, read from standard input, against the crates `color` and `roots`, and
 // compares each result by its bits, where every NaN is the same. It writes the numbers of the first lines
-// that differ with their operations, then how many lines of each operation there are, and at last how many
-// cases were compared and how many lines differ. A line that a list may not have differs too.
+// that differ with their operations, then how many lines of each operation there are, and at last how
+// many cases were compared, how many of them were wrong on purpose and found so, and how many lines
+// differ. A line that a list may not have differs too.
 mod compare;
 mod hues;
 mod operations;

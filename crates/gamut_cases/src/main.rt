@@ -1,7 +1,8 @@
 // Replays a list of gamut cases, read from standard input, against the crate `gamut`, and compares each
 // result by its bits, where every NaN is the same, and each row by its digest. It writes the numbers of the
 // first lines that differ with their operations, then how many lines of each operation there are, and at last
-// how many cases were compared and how many lines differ. A line that a list may not have differs too.
+// how many cases were compared, how many of them were wrong on purpose and found so, and how many lines
+// differ. A line that a list may not have differs too.
 mod compare;
 mod digest;
 mod operations;

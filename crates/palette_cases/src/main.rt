@@ -1,7 +1,7 @@
 // Replays a list of palette cases, read from standard input, against the crate `palette`, and compares each answer: its kind
 // and number, the bits of its metrics or its chroma, and all of its 32 colours. It writes the numbers of the first lines that
-// differ with their operations, then how many lines of each operation there are, and at last how many cases were compared and
-// how many lines differ. A line that a list may not have differs too.
+// differ with their operations, then how many lines of each operation there are, and at last how many cases were compared, how
+// many of them were wrong on purpose and found so, and how many lines differ. A line that a list may not have differs too.
 mod calls;
 mod colors;
 mod lines;

@@ -1,7 +1,8 @@
 // Replays a list of search cases, read from standard input, against the crate `search`, and compares each answer and the job
-// after it, field by field or by a digest. It writes the numbers of the first lines that differ with their operations, then how
-// many lines of each operation there are, and at last how many cases were compared and how many lines differ. A line that a list
-// may not have differs too, and so does a refused call that leaves a work buffer changed.
+// after it, field by field or by a digest. It writes the numbers of the first lines that differ with their operations, then
+// how many lines of each operation there are, and at last how many cases were compared, how many of them were wrong on purpose
+// and found so, and how many lines differ. A line that a list may not have differs too, and so does a refused call that leaves
+// a work buffer changed.
 mod calls;
 mod jobs;
 mod operations;
