@@ -14,7 +14,7 @@ const ASK: u64 = 0x61_736b;
 // dir j cos sin: direction j
 const DIR: u64 = 0x64_6972;
 
-// How many bytes the input may have, less 1.
+// How many bytes the buffer has; an input that fills it is too long.
 const ROOM: usize = 65536;
 
 // What a line can be that it may not be, by its number in `words::malformed`.
@@ -30,7 +30,7 @@ const GIVEN_TWICE: u8 = 4;
 
 // What the lines said.
 pub struct Said {
-    // whether one is malformed, which was written
+    // whether something is wrong, which was written
     wrong: bool,
     // whether it was said what is asked, and what
     asked: bool,

@@ -1,4 +1,4 @@
-// The lines that say what is asked, what the search found and what no other can reach, and what other lines are made of.
+// The lines that say what is asked, what the search found and its limit, and what other lines are made of.
 use crate::numbers;
 use crate::words;
 use audit::Ceiling;
@@ -43,7 +43,7 @@ pub fn asked(settings: Settings) {
     float_line(b", gap ", settings.gap);
 }
 
-// Writes that the table is filled and says so, or the number of a refusal.
+// Writes that the table is filled, or why it is not, and says whether it is.
 pub fn filled(number: u8) -> bool {
     if number != 0 {
         refused(number);
@@ -118,7 +118,7 @@ fn those_asked(settings: Settings) {
     numbers::decimal(settings.gap + 1.0, ALL);
 }
 
-// Writes what no hues that are asked exceed on levels that are asked.
+// Writes the limit: what no hues that are asked exceed on levels that are asked (audit/proofs/Panel, `stepped-is-limit`).
 fn limit_line(settings: Settings, most: f32) {
     words::say(b"limit");
     those_asked(settings);
@@ -134,7 +134,7 @@ pub fn limit(settings: Settings, chroma: f32) {
     }
 }
 
-// Writes that no hues that are asked reach 35 on levels that are asked.
+// Writes that no hues that are asked reach 35 on levels that are asked, by the same theorem.
 pub fn none(settings: Settings) {
     words::say(b"none");
     those_asked(settings);
