@@ -107,26 +107,21 @@ impl Said {
         self.malformed(line.number, NEITHER)
     }
 
-    // With what a line says that is no `ask`.
-    fn with_line(self, line: Line) -> Said {
-        let found = line.found();
-        match found {
-            Found::Open => self,
-            Found::Nothing => self,
-            Found::Case => self.with_case(line),
-            Found::Malformed => self.malformed(line.number, NEITHER),
-        }
-    }
-
     // With what a line says that is at its end, and asks this if it is an `ask`. After one that is malformed nothing is taken.
     fn told(self, line: Line, ask: Ask) -> Said {
+        let found = line.found();
         if self.wrong {
             return self;
         }
         if line.operation == ASK {
             return self.with_ask(line.number, ask);
         }
-        self.with_line(line)
+        match found {
+            Found::Open => self,
+            Found::Nothing => self,
+            Found::Case => self.with_case(line),
+            Found::Malformed => self.malformed(line.number, NEITHER),
+        }
     }
 
     // Whether all is said and nothing is wrong; what is missing is written.

@@ -93,27 +93,30 @@ fn hue_lines(k: usize, hues: [u16; 16]) {
     }
 }
 
-// Writes the hues that are meant, so many at least so many half degrees apart. One hue has no other.
-fn hues_apart(k: usize, step: usize) {
+// Writes how far apart the hues are that are meant, in half degrees.
+fn spacing(step: Stepping) {
+    match step {
+        Stepping::Is(halves) => degrees(halves as u64),
+        Stepping::Declined(why) => refused(why.number()),
+    }
+}
+
+// Writes the hues that are meant. One hue has no other that it could be apart from.
+fn hues_asked(k: usize) {
     if k == 1 {
         words::say(b"single hue");
         return;
     }
     numbers::whole(k as u64);
     words::say(b" hues at least ");
-    degrees(step as u64);
+    spacing(placement::step_for(k));
     words::say(b" apart");
 }
 
-// Writes which hues and levels are meant: those that are asked. A hue count that has no step is refused.
+// Writes which hues and levels are meant: those that are asked.
 fn those_asked(settings: Settings) {
-    let k = settings.k;
-    let step = placement::step_for(k);
     words::say(b": in this table no ");
-    match step {
-        Stepping::Is(halves) => hues_apart(k, halves),
-        Stepping::Declined(why) => refused(why.number()),
-    }
+    hues_asked(settings.k);
     words::say(b", on two levels at least ");
     numbers::decimal(settings.gap + 1.0, ALL);
 }
