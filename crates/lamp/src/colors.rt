@@ -49,11 +49,6 @@ pub fn validation(said: Validation) {
     }
 }
 
-// A colour as one number, red highest.
-fn packed(color: Srgb8) -> u64 {
-    (color.r as u64) << 16 | (color.g as u64) << 8 | color.b as u64
-}
-
 // Writes a colour.
 fn color_line(color: u64, level: usize, hue: u16) {
     words::say(b"#");
@@ -64,12 +59,13 @@ fn color_line(color: u64, level: usize, hue: u16) {
     show::end();
 }
 
-// The colour in a place, or black where there is no such place.
-fn color_at(colors: [Srgb8; 32], at: usize) -> Srgb8 {
+// The colour in a place as one number, red highest, or black where there is no such place.
+fn color_at(colors: [Srgb8; 32], at: usize) -> u64 {
     if at < 32 {
-        return colors[at];
+        let color = colors[at];
+        return (color.r as u64) << 16 | (color.g as u64) << 8 | color.b as u64;
     }
-    Srgb8 { r: 0, g: 0, b: 0 }
+    0
 }
 
 // Writes the k colours of a level, of which the first stands in a place.
@@ -78,7 +74,7 @@ fn level_lines(k: usize, hues: [u16; 16], level: usize, colors: [Srgb8; 32], fir
     while i < 16 {
         if i < k {
             let color = color_at(colors, std::num::wrapping_add_usize(first, i));
-            color_line(packed(color), level, hues[i]);
+            color_line(color, level, hues[i]);
         }
         i += 1;
     }

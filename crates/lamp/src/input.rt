@@ -14,7 +14,7 @@ const ASK: u64 = 0x61_736b;
 // dir j cos sin: direction j
 const DIR: u64 = 0x64_6972;
 
-// How many bytes the input may have, less 1.
+// How many bytes the buffer has; an input that fills it is too long.
 const ROOM: usize = 65536;
 
 // What a line can be that it may not be, by its number in `words::malformed`.
@@ -30,7 +30,7 @@ const GIVEN_TWICE: u8 = 4;
 
 // What the lines said.
 pub struct Said {
-    // whether one is malformed, which was written
+    // whether something is wrong, which was written
     wrong: bool,
     // whether it was said what is asked, and what
     asked: bool,
@@ -107,26 +107,21 @@ impl Said {
         self.malformed(line.number, NEITHER)
     }
 
-    // With what a line says that is no `ask`.
-    fn with_line(self, line: Line) -> Said {
-        let found = line.found();
-        match found {
-            Found::Open => self,
-            Found::Nothing => self,
-            Found::Case => self.with_case(line),
-            Found::Malformed => self.malformed(line.number, NEITHER),
-        }
-    }
-
     // With what a line says that is at its end, and asks this if it is an `ask`. After one that is malformed nothing is taken.
     fn told(self, line: Line, ask: Ask) -> Said {
+        let found = line.found();
         if self.wrong {
             return self;
         }
         if line.operation == ASK {
             return self.with_ask(line.number, ask);
         }
-        self.with_line(line)
+        match found {
+            Found::Open => self,
+            Found::Nothing => self,
+            Found::Case => self.with_case(line),
+            Found::Malformed => self.malformed(line.number, NEITHER),
+        }
     }
 
     // Whether all is said and nothing is wrong; what is missing is written.

@@ -1,4 +1,4 @@
-// The lines that say what is asked, what the search found and what no other can reach, and what other lines are made of.
+// The lines that say what is asked, what the search found and its limit, and what other lines are made of.
 use crate::numbers;
 use crate::words;
 use audit::Ceiling;
@@ -43,7 +43,7 @@ pub fn asked(settings: Settings) {
     float_line(b", gap ", settings.gap);
 }
 
-// Writes that the table is filled and says so, or the number of a refusal.
+// Writes that the table is filled, or why it is not, and says whether it is.
 pub fn filled(number: u8) -> bool {
     if number != 0 {
         refused(number);
@@ -93,32 +93,35 @@ fn hue_lines(k: usize, hues: [u16; 16]) {
     }
 }
 
-// Writes the hues that are meant, so many at least so many half degrees apart. One hue has no other.
-fn hues_apart(k: usize, step: usize) {
+// Writes how far apart the hues are that are meant, in half degrees.
+fn spacing(step: Stepping) {
+    match step {
+        Stepping::Is(halves) => degrees(halves as u64),
+        Stepping::Declined(why) => refused(why.number()),
+    }
+}
+
+// Writes the hues that are meant. One hue has no other that it could be apart from.
+fn hues_asked(k: usize) {
     if k == 1 {
         words::say(b"single hue");
         return;
     }
     numbers::whole(k as u64);
     words::say(b" hues at least ");
-    degrees(step as u64);
+    spacing(placement_checks::step_for(k));
     words::say(b" apart");
 }
 
-// Writes which hues and levels are meant: those that are asked. A hue count that has no step is refused.
+// Writes which hues and levels are meant: those that are asked.
 fn those_asked(settings: Settings) {
-    let k = settings.k;
-    let step = placement_checks::step_for(k);
     words::say(b": in this table no ");
-    match step {
-        Stepping::Is(halves) => hues_apart(k, halves),
-        Stepping::Declined(why) => refused(why.number()),
-    }
+    hues_asked(settings.k);
     words::say(b", on two levels at least ");
     numbers::decimal(settings.gap + 1.0, ALL);
 }
 
-// Writes what no hues that are asked exceed on levels that are asked.
+// Writes the limit: what no hues that are asked exceed on levels that are asked (audit/proofs/Panel, `stepped-is-limit`).
 fn limit_line(settings: Settings, most: f32) {
     words::say(b"limit");
     those_asked(settings);
@@ -134,7 +137,7 @@ pub fn limit(settings: Settings, chroma: f32) {
     }
 }
 
-// Writes that no hues that are asked reach 35 on levels that are asked.
+// Writes that no hues that are asked reach 35 on levels that are asked, by the same theorem.
 pub fn none(settings: Settings) {
     words::say(b"none");
     those_asked(settings);

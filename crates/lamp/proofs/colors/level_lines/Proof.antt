@@ -20,9 +20,6 @@ wrapping-add-usize-requires c κs = search needs
 color-at-requires : tie.Need-color-at-requires Inv-loop μ-loop
 color-at-requires c κs = search needs
 
-packed-requires : tie.Need-packed-requires Inv-loop μ-loop
-packed-requires c κs = search needs
-
 mul-color-line : tie.Need-mul-color-line Inv-loop μ-loop
 mul-color-line c = omega arith
 
@@ -53,7 +50,6 @@ level-lines-spec =
     loop-holds
     wrapping-add-usize-requires
     color-at-requires
-    packed-requires
     mul-color-line
     array-read-color-line
     color-line-requires
