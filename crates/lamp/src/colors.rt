@@ -15,7 +15,6 @@ fn finding_line(finding: Finding) {
     let number = finding.number();
     words::say(b"finding ");
     numbers::whole(number as u64);
-    words::say(b": ");
     words::finding(number);
 }
 
@@ -54,9 +53,7 @@ fn color_line(color: u64, level: usize, hue: u16) {
     words::say(b"#");
     numbers::hex(color, 6);
     show::lightness(level);
-    words::say(b", ");
-    show::degrees(hue as u64);
-    show::end();
+    show::degrees(hue);
 }
 
 // The colour in a place as one number, red highest, or black where there is no such place.

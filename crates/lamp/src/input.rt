@@ -58,7 +58,7 @@ impl Said {
     fn malformed(mut self, line: u64, why: u8) -> Said {
         words::say(b"line ");
         numbers::whole(line);
-        words::say(b": malformed: ");
+        words::say(b": malformed");
         words::malformed(why);
         self.wrong = true;
         self

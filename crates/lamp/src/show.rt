@@ -32,7 +32,6 @@ pub fn metric_line(bytes: &[u8], x: f32) {
 pub fn refused(number: u8) {
     words::say(b"refused,");
     numbers::whole(number as u64);
-    words::say(b": ");
     words::refusal(number);
 }
 
@@ -59,10 +58,11 @@ pub fn lightness(level: usize) {
     numbers::halves(std::num::wrapping_add_u64(level as u64, 24));
 }
 
-// Writes so many half degrees.
-pub fn degrees(halves: u64) {
-    numbers::halves(halves);
-    words::say(b" degrees");
+// Writes a hue in degrees, and ends the line.
+pub fn degrees(hue: u16) {
+    words::say(b", ");
+    numbers::halves(hue as u64);
+    words::say(b" degrees\n");
 }
 
 // Writes a level.
@@ -77,9 +77,7 @@ fn level_line(bytes: &[u8], level: usize) {
 fn hue_line(hue: u16) {
     words::say(b"hue ");
     numbers::whole(hue as u64);
-    words::say(b", ");
-    degrees(hue as u64);
-    end();
+    degrees(hue);
 }
 
 // Writes the first k hues.
@@ -96,7 +94,7 @@ fn hue_lines(k: usize, hues: [u16; 16]) {
 // Writes how far apart the hues are that are meant, in half degrees.
 fn spacing(step: Stepping) {
     match step {
-        Stepping::Is(halves) => degrees(halves as u64),
+        Stepping::Is(halves) => numbers::halves(halves as u64),
         Stepping::Declined(why) => refused(why.number()),
     }
 }
@@ -110,7 +108,7 @@ fn hues_asked(k: usize) {
     numbers::whole(k as u64);
     words::say(b" hues at least ");
     spacing(placement_checks::step_for(k));
-    words::say(b" apart");
+    words::say(b" degrees apart");
 }
 
 // Writes which hues and levels are meant: those that are asked.

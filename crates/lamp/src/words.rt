@@ -21,11 +21,12 @@ fn behind(text: &[u8], newlines: usize) -> usize {
     at
 }
 
-// Writes the line of a text that has this number, from 0, with its newline.
+// Writes a colon and the line of a text that has this number, from 0, with its newline.
 fn line(text: &[u8], number: u8) {
     let n = number as usize;
     let from = behind(text, n);
     let to = behind(text, n + 1);
+    say(b": ");
     if from <= to && to <= text.len() {
         say(&text[from..to]);
     }
