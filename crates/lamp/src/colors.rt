@@ -109,7 +109,7 @@ fn untried() -> bool {
 
 // Writes that every chroma tried has a finding, and the last one.
 fn all_found(finding: Finding) -> bool {
-    words::say(b"every chroma down to 35 has a finding, the last one ");
+    words::say(b"every chroma tried down to 35 has a finding, the last one ");
     finding_line(finding);
     false
 }

@@ -32,6 +32,13 @@ Agrees (step k s) = stepSays k ≡ value s
 abbrev eight : List ℕ
 eight = 50 ∷ 10 ∷ 45 ∷ 20 ∷ 60 ∷ 30 ∷ 41 ∷ 12 ∷ []
 
+-- P1 "both rows 720 entries of 50 ..: 50", P2 "the same with 50 + 2^-18: 50, one f32 step short"
+abbrev pub P1 : Marked
+P1 = pair (f32Of 50) 2 301 35 50
+
+abbrev pub P2 : Marked
+P2 = pair (add binary32 (f32Of 50) (round binary32 false 1 (2 ^ 18))) 2 301 35 50
+
 -- R1 to R8, then P1 and P2, then S1 to S4
 abbrev pub marked : List Marked
 marked =
@@ -43,8 +50,8 @@ marked =
     ∷ ring eight 4 2 40 (placed (0 ∷ 2 ∷ 4 ∷ 6 ∷ []))
     ∷ ring eight 3 2 40 (placed (0 ∷ 2 ∷ 4 ∷ []))
     ∷ ring (50 ∷ 50 ∷ 0 ∷ 0 ∷ 0 ∷ 50 ∷ 0 ∷ 0 ∷ []) 2 4 40 (placed (1 ∷ 5 ∷ []))
-    ∷ pair (f32Of 50) 2 301 35 50
-    ∷ pair (add binary32 (f32Of 50) (round binary32 false 1 (2 ^ 18))) 2 301 35 50
+    ∷ P1
+    ∷ P2
     ∷ step 1 601
     ∷ step 2 301
     ∷ step 7 87
