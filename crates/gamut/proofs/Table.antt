@@ -1,5 +1,5 @@
--- The shape of a table that is taken (`levelled`), and its rows: how long they are, that their entries are taken where the table's are, and that they are f32 where the
--- table's are. Assumes nothing.
+-- The shape of a table that is taken (`levelled`), and its rows: how long they are, which of the table's entries theirs are, that they are taken where the table's are, and that
+-- they are f32 where the table's are. Assumes nothing.
 use mathlib.Core.Path.{_≡_, _∙_}
 use mathlib.Core.Bool.{Bool, true, _&&_}
 use mathlib.Core.List.{List}
@@ -7,8 +7,9 @@ use Prim.Native.Nat.{ℕ, suc, _+_, _-_, _*_, _≤_, _<_}
 use native.Mathlib.Nat.{mul-le-mul-right, suc-mul, min-eq-left}
 use native.Mathlib.Omega.{arith}
 use lib.Dec.{leb, eqb}
-use lib.Ieee.{Float}
-use lib.ListN.{length, take, drop, length-take, length-drop}
+use lib.Ieee.{Float, nan}
+use lib.ListN.{length, getD, take, drop, length-take, length-drop}
+use lib.Seq.{getD-take, getD-drop}
 use borrow.Author.Tests.{leb-true, eqb-true, le-leb, eq-eqb}
 use Rattle.limits.specs.Taken.{entryTaken, every}
 use Rattle.limits.specs.Each.{Each, F32}
@@ -44,6 +45,10 @@ row-long table n i e h =
     let y : suc i * 720 ≡ i * 720 + 720 = suc-mul i 720 in
     let z : length (drop (i * 720) table) ≡ length table - i * 720 = length-drop (i * 720) table in
     length-take 720 (drop (i * 720) table) ∙ min-eq-left (omega arith)
+
+pub row-entry : (table : List Float) (i h : ℕ) → h < 720 → getD (rowAt table i) h nan ≡ getD table (i * 720 + h) nan
+unfolding rowAt
+row-entry table i h u = rw (getD-take, getD-drop)
 
 pub row-taken : (table : List Float) (i : ℕ) → every entryTaken table ≡ true → every entryTaken (rowAt table i) ≡ true
 unfolding rowAt

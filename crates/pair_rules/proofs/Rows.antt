@@ -15,7 +15,7 @@ use borrow.Author.Tests.{eqb-true}
 use Rattle.limits.specs.Taken.{f32Of, entryTaken, every}
 use Rattle.limits.proofs.HueCount.{both}
 use Rattle.halving.proofs.Range.{UpTo, taken-up-to}
-use Rattle.pair_rules.specs.Rows.{lesser, greater, least, valueAt, each, ringLength, leastRow, largestFrom, largest}
+use Rattle.pair_rules.specs.Rows.{lesser, greater, least, valueAt, each, ringLength, leastRow, largestFrom, largest, common}
 use Rattle.pair_rules.specs.Pair.{alike, lengthsTaken, entriesTaken}
 
 -- ---- f at n numbers
@@ -55,6 +55,11 @@ no-more (fin s m e) = refl
 pub of-two : (a b : List Float) (i : ℕ) → valueAt (a ∷ b ∷ []) i ≡ lesser (getD a i nan) (getD b i nan)
 unfolding valueAt least
 of-two a b i = ap (lesser (getD a i nan)) (no-more (getD b i nan))
+
+-- what two hues have in common
+pub common-of-two : (rows : List (List Float)) (i j : ℕ) → common rows (i ∷ j ∷ []) ≡ lesser (valueAt rows i) (valueAt rows j)
+unfolding common least
+common-of-two rows i j = ap (lesser (valueAt rows i)) (no-more (valueAt rows j))
 
 -- ---- entries that are taken
 pub every-at : (p : Float → Bool) (xs : List Float) (i : ℕ) → every p xs ≡ true → i < length xs → p (getD xs i nan) ≡ true

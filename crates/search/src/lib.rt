@@ -66,7 +66,7 @@ pub fn start(settings: Settings, table: &[f32], job: Job) -> Outcome
 }
 
 // Whether a dark and a light level are at least gap + 1 apart.
-fn qualifies(settings: Settings, dark: u16, light: u16) -> bool
+pub fn qualifies(settings: Settings, dark: u16, light: u16) -> bool
     ensures { λ r. ⌜ r ≡ qualifies settings dark light ⌝ }
 {
     let apart = Gamut::l_of(light) - Gamut::l_of(dark);
