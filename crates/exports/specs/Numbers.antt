@@ -8,6 +8,7 @@ use Rattle.search_rules.specs.declared.Settings.{Settings}
 use Rattle.search_rules.specs.declared.Best as search
 use Rattle.search_rules.specs.declared.Best.the-variants.{None, Found}
 use Rattle.search_rules.specs.declared.Job.{Job}
+use Rattle.orientation_rules.specs.Orientation.{Best, none, found, huesBeside}
 use Rattle.srgb.specs.Parts.{toHex}
 use Rattle.palette_checks.specs.declared.Design.{Design}
 use Rattle.palette.specs.Derivation.{colorsOf}
@@ -36,6 +37,13 @@ bestHands None hues levels chroma = handed 255 (replicate 16 0) levels chroma
 abbrev pub searchHands : Said Job → List ℕ → List ℕ → List Float → Handed
 searchHands (value j) hues levels chroma = bestHands (j .best) (j .hues) levels chroma
 searchHands (refused n) hues levels chroma = handed n hues levels chroma
+
+-- after a call with one hue fixed that says this: 0 with the chroma, the two hues and the two levels, 255 where there is none, with zeros for hues and the others as before, or the
+-- number of the refusal with all as before
+abbrev pub orientationHands : ℕ → Said Best → List ℕ → List ℕ → List Float → Handed
+orientationHands hue (value (found c d l partner)) hues levels chroma = handed 0 (huesBeside hue (value (found c d l partner))) (d ∷ l ∷ []) (c ∷ [])
+orientationHands hue (value none) hues levels chroma = handed 255 (huesBeside hue (value none)) levels chroma
+orientationHands hue (refused n) hues levels chroma = handed n hues levels chroma
 
 -- the design that four arguments make
 abbrev pub designOf : ℕ → ℕ → ℕ → List ℕ → Design

@@ -18,7 +18,8 @@ ghost use Rattle.gamut.specs.Gamut.{fillSays, rowAfter};
 ghost use Rattle.srgb.specs.Parts.{toHex};
 ghost use Rattle.palette.specs.BackOff.{backOffSays};
 ghost use Rattle.handing.specs.Numbers.{numberOf, placeNumber, huesAfter, bestNumber, bestHues, bestChroma};
-ghost use Rattle.exports.specs.Numbers.{settingsOf, handed, searchHands, designOf, backed, backOffHands};
+ghost use Rattle.orientation_rules.specs.Orientation.{orientationSays};
+ghost use Rattle.exports.specs.Numbers.{settingsOf, handed, searchHands, orientationHands, designOf, backed, backOffHands};
 
 // What is given where no chroma is found.
 const NO_CHROMA: u32 = 255;
@@ -120,6 +121,39 @@ pub extern "C" fn tengcuvo_search(
                     0
                 }
             }
+        }
+    }
+}
+
+// The best chroma of a table where one hue is fixed and its partner lies 301 to 419 positions on, on levels at least gap + 1 apart:
+// gives 0 with the chroma, sixteen hues, of which the first is the fixed one and the second its partner, and the dark and the light
+// level index, 255 with zeros for hues and the others as before where there is none, or the number of a refusal, with all that is lent
+// as before.
+#[no_mangle]
+pub extern "C" fn tengcuvo_orientation(
+    gap: f32,
+    table: &[f32],
+    hue: usize,
+    hues: &mut [u16; 16],
+    levels: &mut [usize; 2],
+    chroma: &mut [f32; 1],
+) -> u32
+    ensures { λ r. ⌜ handed r (now (hues .exit)) (now (levels .exit)) (now (chroma .exit)) ≡ orientationHands hue (orientationSays gap (now (table .entry)) hue) (now (hues .entry)) (now (levels .entry)) (now (chroma .entry)) ⌝ }
+{
+    let oriented = orientation::best_at_orientation(gap, table, hue);
+    let answer = oriented.answer;
+    let given = oriented.hues;
+    match answer {
+        orientation::Answer::Refused(why) => why.number() as u32,
+        orientation::Answer::Nothing => {
+            *hues = given;
+            NO_CHROMA
+        }
+        orientation::Answer::Found(reached, dark, light) => {
+            *hues = given;
+            *levels = [dark, light];
+            *chroma = [reached];
+            0
         }
     }
 }
