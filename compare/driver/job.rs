@@ -119,11 +119,10 @@ impl Job {
     }
 }
 
-/// A start: the job after it, or the number of its refusal.
-pub fn start(k: u32, gap: f32, table: &[f32]) -> Result<Job, u32> {
+/// The number of the first refusal of a gap and a whole table.
+pub fn table_refusal(gap: f32, table: &[f32]) -> Option<u32> {
     let levels = table.len() / DIRECTIONS;
     let asked = [
-        (BAD_HUE_COUNT, (1..=16).contains(&k)),
         (BAD_GAP, takes_gap(gap)),
         (
             BAD_TABLE,
@@ -131,13 +130,24 @@ pub fn start(k: u32, gap: f32, table: &[f32]) -> Result<Job, u32> {
         ),
         (BAD_ENTRY, table.iter().copied().all(takes)),
     ];
-    if let Some((number, _)) = asked.iter().find(|(_, fine)| !fine) {
-        return Err(*number);
+    asked
+        .iter()
+        .find(|(_, fine)| !fine)
+        .map(|(number, _)| *number)
+}
+
+/// A start: the job after it, or the number of its refusal.
+pub fn start(k: u32, gap: f32, table: &[f32]) -> Result<Job, u32> {
+    if !(1..=16).contains(&k) {
+        return Err(BAD_HUE_COUNT);
+    }
+    if let Some(number) = table_refusal(gap, table) {
+        return Err(number);
     }
     Ok(Job {
         k,
         gap,
-        levels: levels as u32,
+        levels: (table.len() / DIRECTIONS) as u32,
         position: 0,
         best: None,
         hues: [0; 16],
@@ -183,6 +193,12 @@ pub fn step(table: &[f32], room: usize, job: Job) -> Result<Job, u32> {
     Ok(next)
 }
 
+/// The indices of two levels by their lightness, of which two neighbours lie half a unit apart,
+/// which is exact.
+pub fn indices(levels: [f32; 2]) -> [u32; 2] {
+    levels.map(|level| ((level - l_of(0)) * 2.0) as u32)
+}
+
 /// A whole search by the published file: the job after it, or the number of its refusal.
 pub fn search(k: u32, gap: f32, table: &[f32], room: usize) -> Result<Job, u32> {
     let mut job = start(k, gap, table)?;
@@ -193,9 +209,9 @@ pub fn search(k: u32, gap: f32, table: &[f32], room: usize) -> Result<Job, u32> 
     job.position = job.pairs() as u32;
     if let Some(solution) = pairing::search(&gamut, k as usize, gap) {
         let (chroma, levels, hues) = pairing::told(solution);
-        // Levels and hues lie half a unit and half a degree apart, which is exact.
-        let [dark, light] = levels.map(|level| ((level - l_of(0)) * 2.0) as u32);
+        let [dark, light] = indices(levels);
         job.best = Some((chroma, dark, light));
+        // Hues lie half a degree apart, which is exact.
         job.hues = sixteen(hues.into_iter().map(|hue| (hue * 2.0) as usize));
     }
     Ok(job)

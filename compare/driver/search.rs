@@ -10,9 +10,10 @@ use std::io::{self, Write};
 /// How many entries a table can have that is lent, the ones refused among them.
 pub const STORED: usize = (LEVELS + 1) * DIRECTIONS;
 /// How many entries one line can set.
-const ENTRIES_A_LINE: usize = 23;
-/// How many levels a table has at most whose search is held to its steps.
-const FEW_LEVELS: u32 = 12;
+pub const ENTRIES_A_LINE: usize = 23;
+/// How many levels a table has at most whose search is held to its steps, and its best with a hue
+/// fixed to a second working-out.
+pub const FEW_LEVELS: u32 = 12;
 
 /// Whether two slices have the same bits.
 fn equal(a: &[f32], b: &[f32]) -> bool {
@@ -84,6 +85,11 @@ impl Searches<'_> {
             nothing: 0,
             again: 0,
         })
+    }
+
+    /// Where the list is written, for lines that neither set the table nor use the job.
+    pub fn out(&mut self) -> &mut dyn Write {
+        self.out
     }
 
     /// The table.
@@ -341,8 +347,8 @@ impl Searches<'_> {
         self.search_in(k, gap, ROOM)
     }
 
-    /// Ends the list with how many answers of each kind it holds.
-    pub fn end(self) -> io::Result<()> {
+    /// Writes how many answers of each kind the list holds.
+    pub fn end(&mut self) -> io::Result<()> {
         writeln!(
             self.out,
             "# Answers: {} accepted, {} refused.",

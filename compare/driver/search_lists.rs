@@ -2,6 +2,7 @@
 
 use crate::job::{Job, FLOOR, ROOM};
 use crate::lists::step as float_step;
+use crate::orientation_lists;
 use crate::placement_lists::{EDGES, REFUSED};
 use crate::random::Random;
 use crate::search::{Searches, STORED};
@@ -10,7 +11,7 @@ use crate::wrong_lists;
 use std::io::{self, Write};
 
 /// Gaps that are refused.
-const BAD_GAPS: [f32; 7] = [
+pub const BAD_GAPS: [f32; 7] = [
     f32::NAN,
     -0.0,
     85.0,
@@ -57,7 +58,8 @@ pub fn fixed(out: &mut dyn Write) -> io::Result<()> {
     }
     whole_panel(&mut list)?;
     wrong_lists::searches(&mut list)?;
-    list.end()
+    list.end()?;
+    orientation_lists::fixed(&mut list)
 }
 
 /// Writes a random list of at least this many calls, 24 or more over the same table, of which
@@ -80,6 +82,12 @@ pub fn many(out: &mut dyn Write, seed: u64, count: usize) -> io::Result<()> {
 /// A table of so many rows of one value.
 pub fn flat(levels: usize, v: f32) -> Vec<f32> {
     vec![v; levels * DIRECTIONS]
+}
+
+/// A table of rows of these values, each of one of them.
+pub fn rows_of(values: &[f32]) -> Vec<f32> {
+    let rows = values.iter().map(|v| vec![*v; DIRECTIONS]);
+    rows.collect::<Vec<_>>().concat()
 }
 
 /// A record in the midst of a search over four levels.
@@ -341,11 +349,11 @@ fn searches_refused(list: &mut Searches) -> io::Result<()> {
     Ok(())
 }
 
-/// Writes searches over tables in which many pairs reach the best chroma, by its bits or but
-/// for the last of them.
-fn first_wins(list: &mut Searches) -> io::Result<()> {
+/// Tables of rows of one value in which many pairs reach the best chroma, by its bits or but for
+/// the last of them.
+pub fn tied() -> Vec<Vec<f32>> {
     let up = |by: i32| float_step(50.0, by);
-    for row_values in [
+    let rows = [
         vec![50.0; 7],
         vec![FLOOR; 5],
         vec![200.0; 5],
@@ -357,9 +365,14 @@ fn first_wins(list: &mut Searches) -> io::Result<()> {
         vec![44.0, 43.0, 42.0, 41.0, 40.0, 39.0, 38.0, 37.0, 36.0],
         vec![34.999996; 6],
         vec![20.0, 35.0, 20.0, 35.0, 20.0],
-    ] {
-        let rows = row_values.iter().map(|v| vec![*v; DIRECTIONS]);
-        list.set(&rows.collect::<Vec<_>>().concat())?;
+    ];
+    rows.map(|values| rows_of(&values)).to_vec()
+}
+
+/// Writes searches over tables in which many pairs reach the best chroma.
+fn first_wins(list: &mut Searches) -> io::Result<()> {
+    for table in tied() {
+        list.set(&table)?;
         for (k, gap) in [(2, 0.0), (5, 0.5), (16, 1.0)] {
             list.search(k, gap)?;
             list.run(k, gap)?;
@@ -387,10 +400,14 @@ fn counts(list: &mut Searches) -> io::Result<()> {
     Ok(())
 }
 
+/// The values of rows that rise with the level.
+pub const RISING: [f32; 12] = [
+    40.0, 41.0, 42.0, 43.0, 44.0, 45.0, 46.0, 47.0, 48.0, 49.0, 50.0, 51.0,
+];
+
 /// Writes searches with gaps at the half-unit edges and the f32 next to each.
 fn half_units(list: &mut Searches) -> io::Result<()> {
-    let rising = (0..12).map(|level| vec![40.0 + level as f32; DIRECTIONS]);
-    list.set(&rising.collect::<Vec<_>>().concat())?;
+    list.set(&rows_of(&RISING))?;
     for half in 0..11 {
         let gap = 0.5 * half as f32;
         for gap in [float_step(gap, -1), gap, float_step(gap, 1)] {
@@ -401,14 +418,23 @@ fn half_units(list: &mut Searches) -> io::Result<()> {
     Ok(())
 }
 
-/// Writes searches over all 169 levels with gaps at which the last pair qualifies or none does.
-fn farthest(list: &mut Searches) -> io::Result<()> {
+/// Gaps at which the last pairs of 169 levels qualify or none does.
+pub const FAR: [f32; 5] = [82.0, 82.5, 83.0, 83.5, 84.0];
+
+/// Sets the table to the panel's 169 levels with another chroma at the first and the last two.
+pub fn far_table(list: &mut Searches) -> io::Result<()> {
     list.panel(0, LEVELS)?;
     for level in [0, 1, LEVELS - 2, LEVELS - 1] {
         let v = 50.0 + (level % 5) as f32;
         list.same(level * DIRECTIONS, DIRECTIONS, v)?;
     }
-    for gap in [82.0, 82.5, 83.0, 83.5, 84.0] {
+    Ok(())
+}
+
+/// Writes searches over all 169 levels with gaps at which the last pair qualifies or none does.
+fn farthest(list: &mut Searches) -> io::Result<()> {
+    far_table(list)?;
+    for gap in FAR {
         for gap in [-1, 0, 1].map(|by| float_step(gap, by)) {
             list.search(2, gap)?;
         }
@@ -450,7 +476,7 @@ fn whole_panel(list: &mut Searches) -> io::Result<()> {
 
 /// How many kinds of random tables there are, and how many of them take few lines.
 const KINDS: usize = 9;
-const CHEAP: usize = 7;
+pub const CHEAP: usize = 7;
 
 /// A row of a few bands, each of one of these values.
 fn banded(random: &mut Random, values: &[f32]) -> Vec<f32> {
@@ -503,7 +529,7 @@ fn row(random: &mut Random, kind: usize, level: usize, values: &[f32]) -> Vec<f3
 
 /// Sets a random table of this kind and so many levels: rows as above of which some are equal,
 /// or rows of the panel, some of them changed in one place.
-fn random_table(
+pub fn random_table(
     list: &mut Searches,
     random: &mut Random,
     kind: usize,
@@ -535,7 +561,7 @@ fn random_table(
 
 /// A random gap: 0, a half-unit edge that a table of so many levels can have or the f32 next to
 /// it, or any.
-fn random_gap(random: &mut Random, levels: usize) -> f32 {
+pub fn random_gap(random: &mut Random, levels: usize) -> f32 {
     let edge = 0.5 * random.below(levels.max(3) - 2) as f32;
     match random.below(8) {
         0 | 1 => 0.0,

@@ -5,6 +5,7 @@ use crate::cases::{word, List};
 use crate::gamut::{chroma_words, lightness_words, Lent};
 use crate::job::{Job, FLOOR, ROOM};
 use crate::lists::step as float_step;
+use crate::orientation::Orientations;
 use crate::pair::Pairs;
 use crate::palette_lists::{design, printed_designs};
 use crate::palettes::{Design, Palettes};
@@ -229,6 +230,31 @@ fn wrong_steps(list: &mut Searches) -> io::Result<()> {
         list.wrong_steps(5, off(place))?;
     }
     Ok(())
+}
+
+/// Writes calls with a hue fixed of which the number, the kind of the answer, the chroma, a level or
+/// the partner is another.
+pub fn orientations(list: &mut Orientations) -> io::Result<()> {
+    list.tables.set(&flat(4, 50.0))?;
+    let (found, none, refused) = ((0.0, 400), (1.0, 0), (0.0, 720));
+    for by in [-1, 1] {
+        list.wrong(found, put(3, word(float_step(50.0, by))))?;
+    }
+    for place in [4, 5, 6] {
+        list.wrong(found, off(place))?;
+    }
+    list.wrong(found, put(2, 2))?;
+    list.wrong(found, last(2, 0))?;
+    list.wrong(found, last(2, 2))?;
+    // Hues that are all zero leave the kind of the answer to tell them.
+    list.wrong(none, |words| words.extend([word(50.0), 0, 2, 0]))?;
+    list.wrong(none, put(2, 12))?;
+    list.wrong(refused, put(2, 7))?;
+    list.wrong(refused, put(2, 0))?;
+    list.wrong(refused, |words| {
+        words[2] = 0;
+        words.extend([word(50.0), 0, 2, 301]);
+    })
 }
 
 /// Writes derivations, validations and back-offs of which the number, a channel of the first or
