@@ -1,11 +1,12 @@
-// Replays a list of search cases, read from standard input, against the crate `search`, and compares each answer and the job
-// after it, field by field or by a digest. It writes the numbers of the first lines that differ with their operations, then
+// Replays a list of search cases, read from standard input, against the crates `search` and `orientation`, and compares each
+// answer of the one and the job after it, field by field or by a digest, and each of the other with its hues. It writes the numbers of the first lines that differ with their operations, then
 // how many lines of each operation there are, and at last how many cases were compared, how many of them were wrong on purpose
 // and found so, and how many lines differ. A line that a list may not have differs too, and so does a refused call that leaves
 // a work buffer changed.
 mod calls;
 mod jobs;
 mod operations;
+mod orientations;
 mod table;
 
 use calls::Taken;
@@ -24,10 +25,10 @@ struct State {
     job: Job,
 }
 
-// How long a work buffer a call is lent; a start is lent none.
+// How long a work buffer a call is lent; a start and a best with one hue fixed are lent none.
 fn room_of(operation: u64, words: [u32; 24]) -> usize {
     match operation {
-        operations::START => 0,
+        operations::START | operations::ORIENT => 0,
         operations::STEP => size_at(words, 0),
         operations::STEPS => size_at(words, 1),
         _ => size_at(words, 2),
@@ -44,6 +45,7 @@ fn called_in(line: Line, table: &[f32], work: &mut [u16], job: Job) -> Taken {
         operations::START => calls::start(words, count, table, job),
         operations::STEP => calls::step(words, count, seed, table, work, job),
         operations::STEPS => calls::steps(words, seed, table, work, job),
+        operations::ORIENT => orientations::orient(words, count, table, job),
         _ => calls::search(words, count, seed, table, work, job),
     }
 }

@@ -38,8 +38,12 @@ pub const STEPS: u64 = 0x73_7465_7073;
 // search k gap room number position chroma dark light h ..: a whole search: the same as of a step
 const SEARCH: u64 = 0x7365_6172_6368;
 
+// orient gap hue number chroma dark light partner: the best with this hue fixed: the number of its refusal, or 0 with the
+// chroma, the level indices and the partner where something is found
+pub const ORIENT: u64 = 0x6f72_6965_6e74;
+
 // How many operations there are.
-pub const COUNT: usize = 12;
+pub const COUNT: usize = 13;
 
 // The place of the first operation that sets the job, and of the first that is a case.
 pub const FIRST_JOB: usize = 6;
@@ -50,7 +54,7 @@ pub const FIRST_CASE: usize = 8;
 pub const NOWHERE: usize = 24;
 
 // The operations in the order in which they are reported.
-pub const NAMES: [u64; 12] = [
+pub const NAMES: [u64; 13] = [
     DIR,
     TABLE,
     MORE,
@@ -63,13 +67,14 @@ pub const NAMES: [u64; 12] = [
     STEP,
     STEPS,
     SEARCH,
+    ORIENT,
 ];
 
 // How many words each of them has at least.
-const FEWEST: [usize; 12] = [3, 1, 2, 3, 3, 2, 4, 3, 3, 2, 4, 4];
+const FEWEST: [usize; 13] = [3, 1, 2, 3, 3, 2, 4, 3, 3, 2, 4, 4, 3];
 
 // How many words each of them has at most.
-const MOST: [usize; 12] = [3, 1, 24, 3, 3, 2, 20, 3, 4, 22, 4, 24];
+const MOST: [usize; 13] = [3, 1, 24, 3, 3, 2, 20, 3, 4, 22, 4, 24, 7];
 
 // The place of an operation among all, or none of their places, NOWHERE, where there is no such operation or it may not have
 // so many words.
