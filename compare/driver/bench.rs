@@ -1,6 +1,6 @@
 //! Times the filling of a whole gamut table, placements on rings of it, pairs of its rows, whole
-//! searches of it, and back-offs of what they find, by our archive and by the published Rust, in
-//! turns. See compare/README.md.
+//! searches of it, its bests with one hue fixed, and back-offs of what the searches find, by our
+//! archive and by the published Rust, in turns. See compare/README.md.
 
 mod back_offs;
 mod big;
@@ -9,7 +9,8 @@ mod chroma; // max_chroma and l_of, taken from the published file by compare/bui
 mod color; // the published file, patched by compare/build
 mod deriving; // derive and back_off, taken from the published file by compare/build
 mod findings;
-mod pairing; // best_for_levels, search and their table, taken from the published file by compare/build
+mod orientations;
+mod pairing; // best_for_levels, search, best_at_orientation and their table, taken from the published file by compare/build
 mod palette; // the white point, taken from the published file by compare/build
 mod placing; // feasible, place_from and the step, taken from the published file by compare/build
 #[allow(dead_code)]
@@ -26,9 +27,9 @@ const TURNS: usize = 41;
 const SEARCH_TURNS: usize = 15;
 /// What each hue is before a placement.
 const BEFORE: u16 = 4711;
-/// What the chroma is before a pair, a search or a back-off.
+/// What the chroma is before a pair, a search, a best with one hue fixed or a back-off.
 const BEFORE_CHROMA: f32 = 47.11;
-/// What each level index is before a search.
+/// What each level index is before a search or a best with one hue fixed.
 const BEFORE_LEVEL: usize = 471_147;
 /// What our archive gives where there is no placement, or no chroma is found.
 const NONE: u32 = 255;
@@ -459,7 +460,8 @@ fn bests(table: &[f32]) {
     println!("all pairs are equal bit for bit, {found} of them with a chroma");
 }
 
-/// What a search gives: the number, the hues, the level indices, and the bits of the chroma.
+/// What a search or a best with one hue fixed gives: the number, the hues, the level indices, and
+/// the bits of the chroma.
 type Searched = (u32, [u16; 16], [usize; 2], u32);
 
 /// Searches a table by our archive.
@@ -510,7 +512,8 @@ fn search_refusals() {
     }
 }
 
-/// What our archive must give where the published search gives this.
+/// What our archive must give where the published search, or the published best with one hue
+/// fixed, gives this.
 fn expected_search(theirs: Option<pairing::Solution>) -> Searched {
     let mut hues = [0; 16];
     let Some(solution) = theirs else {
@@ -552,17 +555,19 @@ fn searches(table: &[f32]) {
     println!("all searches are equal bit for bit");
 }
 
-/// Tries the refusals, then times the five parts.
+/// Tries the refusals, then times the six parts.
 fn main() {
     let (cos, sin) = standins::directions();
     refusals(&cos, &sin);
     placement_refusals();
     pair_refusals();
     search_refusals();
+    orientations::refusals();
     back_offs::refusals(&cos, &sin);
     let table = tables(&cos, &sin);
     placements(&table);
     bests(&table);
     searches(&table);
+    orientations::all(&table);
     back_offs::all(&table, &cos, &sin);
 }
