@@ -1,8 +1,8 @@
 // Replays a list of search cases, read from standard input, against the crates `search` and `orientation`, and compares each
-// answer of the one and the job after it, field by field or by a digest, and each of the other with its hues. It writes the numbers of the first lines that differ with their operations, then
-// how many lines of each operation there are, and at last how many cases were compared, how many of them were wrong on purpose
-// and found so, and how many lines differ. A line that a list may not have differs too, and so does a refused call that leaves
-// a work buffer changed.
+// answer of the one and the job after it, field by field or by a digest, and each answer of the other with its hues. It writes the
+// numbers of the first lines that differ with their operations, then how many lines of each operation there are, and at last how
+// many cases were compared, how many of them were wrong on purpose and found so, and how many lines differ. A line that a list may
+// not have differs too, and so does a refused call that leaves a work buffer changed.
 mod calls;
 mod jobs;
 mod operations;

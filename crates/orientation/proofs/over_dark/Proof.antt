@@ -1,13 +1,12 @@
 -- `orientation::over_dark` meets its contract: the loop keeps the turns that are left from the best so far. Assumes nothing.
-use mathlib.Core.Path.{_≡_, ap, _∙_}
-use Prim.Native.Nat.{ℕ, suc, _+_, _-_, _/_, _≤_}
+use mathlib.Core.Path.{_≡_, ap}
+use Prim.Native.Nat.{ℕ, _-_, _/_, _≤_}
 use native.Mathlib.Nat.{sub-zero}
-use native.Mathlib.Numerals.{add-one}
 use native.Mathlib.Omega.{arith}
 use lib.ListN.{length}
 use Rattle.gamut.specs.Table.{levelsIn}
 use Rattle.search_rules.specs.Loops.{loop}
-use Rattle.orientation_rules.specs.Orientation.{Best, none, overLight, bestFixed}
+use Rattle.orientation_rules.specs.Orientation.{none, overLight, bestFixed}
 use Rattle.orientation_rules.proofs.Turns.{one-taken, all-taken}
 use Rattle.orientation_rules.proofs.Skipping.{Reached}
 use Rattle.orientation.specs.Inner.{bestOf}
@@ -37,34 +36,19 @@ loop-less : tie.Need-loop-less Inv-loop μ-loop
 loop-less c = omega arith
 
 loop-again : tie.Need-loop-again Inv-loop μ-loop
-unfolding levelsIn
 loop-again c =
     let l = c .before .before in
     let a = l .before .before .args in
     let t = a .table .now in
-    let levels = length t / 720 in
-    let dark = l .loop .dark in
-    let so = bestOf (l .loop .best) in
-    let inside = c .before .loop-test .taken in
     let next = c .over-light .ensures in
-    let fewer : levels - dark ≡ suc (levels - (dark + 1)) = omega arith in
-    let turn : ℕ → Best → Best = overLight (a .gap) t (a .hue) in (
-      omega arith,
-      ap (λ (k : ℕ). loop turn (levels - (dark + 1)) k (bestOf (c .over-light .result))) (add-one dark)
-          ∙ one-taken turn (levels - dark) (levels - (dark + 1)) dark so (bestOf (c .over-light .result)) fewer (next .0)
-          ∙ l .loop .inv .1,
-      next .1,
-    )
+    (omega arith, one-taken (overLight (a .gap) t (a .hue)) (length t / 720) (l .loop .dark) (bestOf (l .loop .best)) (bestOf (c .over-light .result)) (bestFixed (a .gap) t (a .hue)) (c .before .loop-test .taken) (next .0) (l .loop .inv .1), next .1)
 
 returns : tie.Need-returns Inv-loop μ-loop
 returns c =
     let l = c .before in
     let a = l .before .before .args in
     let t = a .table .now in
-    let levels = length t / 720 in
-    let end = c .loop-test .left in
-    let left : levels - l .loop .dark ≡ 0 = omega arith in
-    all-taken (overLight (a .gap) t (a .hue)) (levels - l .loop .dark) (l .loop .dark) (bestOf (l .loop .best)) left ∙ l .loop .inv .1
+    all-taken (overLight (a .gap) t (a .hue)) (length t / 720) (l .loop .dark) (bestOf (l .loop .best)) (bestFixed (a .gap) t (a .hue)) (c .loop-test .left) (l .loop .inv .1)
 
 pub over-dark-spec : {M : Type 1} → statement M
 over-dark-spec =

@@ -3,9 +3,8 @@ use mathlib.Core.Path.{_≡_, sym, ap, _∙_, subst}
 use mathlib.Core.Logic.{⊎-elim}
 use mathlib.Core.Bool.{true, false}
 use mathlib.Core.List.{List}
-use Prim.Native.Nat.{ℕ, suc, _+_, _-_, _/_, _≤_, _<_}
+use Prim.Native.Nat.{ℕ, _-_, _/_, _≤_, _<_}
 use native.Mathlib.Nat.{sub-zero}
-use native.Mathlib.Numerals.{add-one}
 use native.Mathlib.Omega.{arith}
 use lib.Ieee.{Float}
 use lib.ListN.{length}
@@ -91,14 +90,12 @@ loop-again c =
     let s = l .before .before in
     let a = s .args in
     let t = a .table .now in
-    let levels = length t / 720 in
     let light = l .loop .light in
     let so = bestOf (l .loop .best) in
     let test = c .before .before .loop-test .taken in
     let i = inside (c .before .before) in
     let taken = s .pre .asked .taken in
     let good = good-table (a .gap) t (a .hue) taken (s .pre .asked .f32) in
-    let fewer : levels - light ≡ suc (levels - (light + 1)) = omega arith in
     let next : (bestOf (c .if1 .best) ≡ tried (a .gap) t (a .hue) (a .dark) light so) × Reached (bestOf (c .if1 .best)) =
     ⊎-elim
     (λ r. let e = ap bestOf (r .2) ∙ r .1 .ensures in (
@@ -107,12 +104,9 @@ loop-again c =
     ))
     (λ r. let e = ap bestOf (r .1) in
     (e ∙ near (a .gap) t (a .hue) (a .dark) light so (sym (c .before .qualifies .ensures) ∙ r .0 .left), subst Reached (sym e) (l .loop .inv .2)))
-    (c .if1 .came) in
-    let turn : ℕ → Best → Best = tried (a .gap) t (a .hue) (a .dark) in (
+    (c .if1 .came) in (
       omega arith,
-      ap (λ (k : ℕ). loop turn (levels - (light + 1)) k (bestOf (c .if1 .best))) (add-one light)
-          ∙ one-taken turn (levels - light) (levels - (light + 1)) light so (bestOf (c .if1 .best)) fewer (next .0)
-          ∙ l .loop .inv .1,
+      one-taken (tried (a .gap) t (a .hue) (a .dark)) (length t / 720) light so (bestOf (c .if1 .best)) (overLight (a .gap) t (a .hue) (a .dark) (bestOf (a .kept))) (omega arith) (next .0) (l .loop .inv .1),
       next .1,
     )
 
@@ -121,10 +115,9 @@ returns c =
     let l = c .before in
     let a = l .before .before .args in
     let t = a .table .now in
-    let levels = length t / 720 in
     let end = c .loop-test .left in
-    let none : levels - l .loop .light ≡ 0 = omega arith in
-    (all-taken (tried (a .gap) t (a .hue) (a .dark)) (levels - l .loop .light) (l .loop .light) (bestOf (l .loop .best)) none ∙ l .loop .inv .1, l .loop .inv .2)
+    let whole = overLight (a .gap) t (a .hue) (a .dark) (bestOf (a .kept)) in
+    (all-taken (tried (a .gap) t (a .hue) (a .dark)) (length t / 720) (l .loop .light) (bestOf (l .loop .best)) whole (omega arith) (l .loop .inv .1), l .loop .inv .2)
 
 pub over-light-spec : {M : Type 1} → statement M
 over-light-spec =

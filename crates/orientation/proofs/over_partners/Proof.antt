@@ -4,8 +4,7 @@ use mathlib.Core.Path.{_≡_, refl, sym, ap, _∙_}
 use mathlib.Core.Logic.{⊎-elim}
 use mathlib.Core.Bool.{Bool, true, false, not}
 use mathlib.Core.List.{List, [], _∷_}
-use Prim.Native.Nat.{ℕ, suc, _+_, _-_, _%_, _≤_}
-use native.Mathlib.Numerals.{add-one}
+use Prim.Native.Nat.{ℕ, _+_, _-_, _%_, _≤_}
 use native.Mathlib.Omega.{arith}
 use lib.Ieee.{Float}
 use borrow.Author.Needs.{needs}
@@ -108,7 +107,6 @@ loop-again c =
     let so = bestOf (l .loop .best) in
     let chroma = c .before .before .lesser .result in
     let inside = i .loop-test .taken in
-    let fewer : 420 - on ≡ suc (420 - (on + 1)) = omega arith in
     let is = shared t (a .hue) (a .dark) (a .light) on (v .value-at .result) (c .before .before .before .value-at2 .result) chroma (v .value-at .ensures) (c .before .before .before .value-at2 .ensures) (c .before .before .lesser .ensures) in
     let next : bestOf (c .if2 .best) ≡ triedWith t (a .hue) (a .dark) (a .light) (partnerAt (a .hue) on) so =
     ⊎-elim
@@ -117,18 +115,16 @@ loop-again c =
     (c .if2 .came) in (
       omega arith,
       omega arith,
-      ap (λ (k : ℕ). loop (turn t (a .hue) (a .dark) (a .light)) (420 - (on + 1)) k (bestOf (c .if2 .best))) (add-one on)
-          ∙ one-taken (turn t (a .hue) (a .dark) (a .light)) (420 - on) (420 - (on + 1)) on so (bestOf (c .if2 .best)) fewer next
-          ∙ l .loop .inv .2,
+      one-taken (turn t (a .hue) (a .dark) (a .light)) 420 on so (bestOf (c .if2 .best)) (overPartners t (a .hue) (a .dark) (a .light) (bestOf (a .kept))) (omega arith) next (l .loop .inv .2),
     )
 
 returns-2 : tie.Need-returns-2 Inv-loop μ-loop
 returns-2 c =
     let l = c .before in
     let a = l .before .before .before .before .before .args in
+    let t = a .table .now in
     let end = c .loop-test .left in
-    let none : 420 - l .loop .on ≡ 0 = omega arith in
-    all-taken (turn (a .table .now) (a .hue) (a .dark) (a .light)) (420 - l .loop .on) (l .loop .on) (bestOf (l .loop .best)) none ∙ l .loop .inv .2
+    all-taken (turn t (a .hue) (a .dark) (a .light)) 420 (l .loop .on) (bestOf (l .loop .best)) (overPartners t (a .hue) (a .dark) (a .light) (bestOf (a .kept))) (omega arith) (l .loop .inv .2)
 
 pub over-partners-spec : {M : Type 1} → statement M
 over-partners-spec =
