@@ -7,7 +7,7 @@ use lib.ListN.{length}
 use Rattle.limits.specs.Each.{Each, F32}
 use Rattle.gamut.specs.Table.{levelsIn}
 use Rattle.search_rules.proofs.Rows.{Good}
-use Rattle.orientation_rules.specs.Orientation.{Best, none, found}
+use Rattle.orientation_rules.specs.Orientation.{Best, none, found, overLight}
 use Rattle.orientation_rules.specs.Fixed.{OrientationTaken}
 use Rattle.orientation_rules.proofs.Skipping.{Reached}
 use Rattle.orientation.specs.declared.Kept.{Kept}
@@ -42,6 +42,11 @@ pub record Lit (gap : Float) (t : List Float) (hue dark : ℕ) (so : Best) : Typ
   pub asked : Taken gap t hue
   pub dark-in : dark < levelsIn t
   pub reached : Reached so
+
+-- what the light levels of a dark one make of a best so far
+pub record Passed (gap : Float) (t : List Float) (hue dark : ℕ) (so next : Best) : Type 0 where
+  pub is : next ≡ overLight gap t hue dark so
+  pub reached : Reached next
 
 -- a best whose partner, and the fixed hue, are hues
 abbrev pub PartnerIn : Best → Type 0

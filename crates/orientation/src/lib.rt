@@ -12,9 +12,8 @@ ghost use Rattle.limits.specs.Answers.{value};
 ghost use Rattle.limits.specs.Refusals.{checkSaid};
 ghost use Rattle.gamut.specs.Table.{rowAt};
 ghost use Rattle.pair_rules.specs.Rows.{lesser, valueAt};
-ghost use Rattle.orientation_rules.specs.Orientation.{replaces, overPartners, overLight, bestFixed, orientationChecked, orientationSays, Gives};
-ghost use Rattle.orientation_rules.proofs.Skipping.{Reached};
-ghost use Rattle.orientation.specs.Inner.{bestOf, There, Paired, Taken, Lit, Handed};
+ghost use Rattle.orientation_rules.specs.Orientation.{replaces, overPartners, bestFixed, orientationChecked, orientationSays, Gives};
+ghost use Rattle.orientation.specs.Inner.{bestOf, There, Paired, Taken, Lit, Passed, Handed};
 
 // The first refusal of a call, of 2, 6, 7 over the whole table and 12.
 fn check(gap: f32, table: &[f32], hue: usize) -> Checked
@@ -97,7 +96,7 @@ fn over_partners(table: &[f32], hue: usize, dark: usize, light: usize, kept: Kep
 // The best so far after the light levels of a dark one, in their order.
 fn over_light(gap: f32, table: &[f32], hue: usize, dark: usize, kept: Kept) -> Kept
     requires { ⌜ Lit gap (now table) hue dark (bestOf kept) ⌝ }
-    ensures { λ r. ⌜ (bestOf r ≡ overLight gap (now (table .entry)) hue dark (bestOf kept)) × Reached (bestOf r) ⌝ }
+    ensures { λ r. ⌜ Passed gap (now (table .entry)) hue dark (bestOf kept) (bestOf r) ⌝ }
 {
     let settings = Settings { k: 2, gap };
     let levels = table.len() / Gamut::HUES;

@@ -25,7 +25,7 @@ pub data Best : Type 0 where
   none : Best
   found : Float → ℕ → ℕ → ℕ → Best
 
--- "k is 2", and a pair qualifies by the job's own test
+-- a pair qualifies by the job's own test, which reads the gap of the settings alone; that "k is 2" shows in the two hues of `triedWith`
 abbrev pub asked : Float → Settings
 asked gap = record { k = 2; gap = gap }
 

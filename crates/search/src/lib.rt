@@ -65,7 +65,8 @@ pub fn start(settings: Settings, table: &[f32], job: Job) -> Outcome
     }
 }
 
-// Whether a dark and a light level are at least gap + 1 apart.
+// Whether the light level minus the dark one is not below gap + 1, one f32 sum. With a NaN gap it never is below; whoever asks has
+// refused that gap before.
 pub fn qualifies(settings: Settings, dark: u16, light: u16) -> bool
     ensures { λ r. ⌜ r ≡ qualifies settings dark light ⌝ }
 {

@@ -41,7 +41,7 @@ loop-again c =
     let a = l .before .before .args in
     let t = a .table .now in
     let next = c .over-light .ensures in
-    (omega arith, one-taken (overLight (a .gap) t (a .hue)) (length t / 720) (l .loop .dark) (bestOf (l .loop .best)) (bestOf (c .over-light .result)) (bestFixed (a .gap) t (a .hue)) (c .before .loop-test .taken) (next .0) (l .loop .inv .1), next .1)
+    (omega arith, one-taken (overLight (a .gap) t (a .hue)) (length t / 720) (l .loop .dark) (bestOf (l .loop .best)) (bestOf (c .over-light .result)) (bestFixed (a .gap) t (a .hue)) (c .before .loop-test .taken) (next .is) (l .loop .inv .1), next .reached)
 
 returns : tie.Need-returns Inv-loop μ-loop
 returns c =

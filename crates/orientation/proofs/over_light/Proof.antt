@@ -117,7 +117,7 @@ returns c =
     let t = a .table .now in
     let end = c .loop-test .left in
     let whole = overLight (a .gap) t (a .hue) (a .dark) (bestOf (a .kept)) in
-    (all-taken (tried (a .gap) t (a .hue) (a .dark)) (length t / 720) (l .loop .light) (bestOf (l .loop .best)) whole (omega arith) (l .loop .inv .1), l .loop .inv .2)
+    record { is = all-taken (tried (a .gap) t (a .hue) (a .dark)) (length t / 720) (l .loop .light) (bestOf (l .loop .best)) whole (omega arith) (l .loop .inv .1); reached = l .loop .inv .2 }
 
 pub over-light-spec : {M : Type 1} → statement M
 over-light-spec =
