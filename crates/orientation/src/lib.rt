@@ -4,7 +4,7 @@ use limits::Checked;
 use limits::Refusal;
 pub use orientation_rules::Answer;
 pub use orientation_rules::Oriented;
-use search::Settings;
+use search_rules::Settings;
 ghost use mathlib.Core.Path.{_≡_};
 ghost use mathlib.Core.List.{[], _∷_};
 ghost use lib.ListN.{replicate};
@@ -103,7 +103,7 @@ fn over_light(gap: f32, table: &[f32], hue: usize, dark: usize, kept: Kept) -> K
     let mut best = kept;
     let mut light: usize = 0;
     while light < levels {
-        if search::qualifies(settings, dark as u16, light as u16) {
+        if search_checks::qualifies(settings, dark as u16, light as u16) {
             best = over_partners(table, hue, dark, light, best);
         }
         light += 1;

@@ -18,7 +18,7 @@ ghost use Rattle.limits.specs.Refusals.{number};
 ghost use Rattle.limits.specs.Taken.{hueCountTaken};
 ghost use Rattle.placement_rules.specs.Placing.{stepFor};
 ghost use Rattle.search_rules.specs.declared.Job.{Job};
-ghost use Rattle.search_rules.specs.Job.{begun, startSays, qualifies, floorOf, beats, movedOn, replaced, searched, stepSays, stepsFrom, searchSays, Gives};
+ghost use Rattle.search_rules.specs.Job.{begun, startSays, floorOf, beats, movedOn, replaced, searched, stepSays, stepsFrom, searchSays, Gives};
 ghost use Rattle.search.specs.Inner.{pairAnswers, pairHues, pairGiven, Stepped};
 
 // A call that is refused, with the job as it was.
@@ -63,16 +63,6 @@ pub fn start(settings: Settings, table: &[f32], job: Job) -> Outcome
         Checked::Wrong(why) => refuse(why, job),
         Checked::Fine => accept(begin(settings, table.len() / Gamut::HUES)),
     }
-}
-
-// Whether the light level minus the dark one is not below gap + 1, one f32 sum. With a NaN gap it never is below; whoever asks has
-// refused that gap before.
-pub fn qualifies(settings: Settings, dark: u16, light: u16) -> bool
-    ensures { λ r. ⌜ r ≡ qualifies settings dark light ⌝ }
-{
-    let apart = Gamut::l_of(light) - Gamut::l_of(dark);
-    let least = settings.gap + 1.0;
-    !(apart < least)
 }
 
 // The chroma that a pair must reach.
@@ -161,7 +151,7 @@ fn go_through(table: &[f32], work: &mut [u16], job: Job, dark: usize, light: usi
     ensures { λ r. ⌜ Gives r job (searched job (now (table .entry)) dark light) ⌝ }
     ensures { λ r. ⌜ ((w : ℕ) → searched job (now (table .entry)) dark light ≡ refused w → now (work .exit) ≡ now (work .entry)) ⌝ }
 {
-    if !qualifies(job.settings, dark as u16, light as u16) {
+    if !search_checks::qualifies(job.settings, dark as u16, light as u16) {
         return accept(moved_on(job));
     }
     let chosen = best_of(table, work, job, dark, light);

@@ -1,4 +1,5 @@
-// What a start and a step refuse before they read a row, and whether a record is broken: numbers 1, 2, 6, 7 and 15, 14, 6, 8.
+// What a start and a step refuse before they read a row, numbers 1, 2, 6, 7 and 15, 14, 6, 8, whether a record is broken, and whether
+// a pair of levels is far enough apart to be read.
 use gamut::Gamut;
 use limits::Checked;
 use limits::Refusal;
@@ -8,7 +9,7 @@ use search_rules::Settings;
 ghost use mathlib.Core.Path.{_≡_};
 ghost use Rattle.limits.specs.Answers.{value};
 ghost use Rattle.limits.specs.Refusals.{checkSaid};
-ghost use Rattle.search_rules.specs.Job.{startChecked, bestHeld, handed, huesHeld, unbroken, stepChecked};
+ghost use Rattle.search_rules.specs.Job.{startChecked, bestHeld, handed, huesHeld, unbroken, stepChecked, qualifies};
 
 // The first refusal of a start, of 1, 2, 6 and 7 over the whole table.
 pub fn check_start(settings: Settings, table: &[f32]) -> Checked
@@ -104,4 +105,14 @@ pub fn check_step(job: Job, length: usize, room: usize) -> Checked
         return Checked::Wrong(Refusal::WorkBuffer);
     }
     Checked::Fine
+}
+
+// Whether the light level minus the dark one is not below gap + 1, one f32 sum. With a NaN gap it never is below; whoever asks has
+// refused that gap before.
+pub fn qualifies(settings: Settings, dark: u16, light: u16) -> bool
+    ensures { λ r. ⌜ r ≡ qualifies settings dark light ⌝ }
+{
+    let apart = Gamut::l_of(light) - Gamut::l_of(dark);
+    let least = settings.gap + 1.0;
+    !(apart < least)
 }

@@ -46,7 +46,7 @@ takes-gap-requires : tie.Need-takes-gap-requires
 takes-gap-requires c κs = search needs
 
 returns : tie.Need-returns
-returns c = first _ _ _ (sym (c .before .takes-gap .ensures) ∙ not-true _ (c .if1 .taken))
+returns c = first _ _ (c .before .before .before .args .hue) (sym (c .before .takes-gap .ensures) ∙ not-true _ (c .if1 .taken))
 
 one : (c : tie.Else1) → gapTaken (c .before .before .before .args .gap) ≡ true
 one c = sym (c .before .takes-gap .ensures) ∙ not-false _ (c .if1 .left)
@@ -55,7 +55,7 @@ takes-table-requires : tie.Need-takes-table-requires
 takes-table-requires c κs = search needs
 
 returns-2 : tie.Need-returns-2
-returns-2 c = second _ _ _ (one (c .before .before)) (sym (c .before .takes-table .ensures) ∙ not-true _ (c .if2 .taken))
+returns-2 c = second _ _ (c .before .before .before .before .before .args .hue) (one (c .before .before)) (sym (c .before .takes-table .ensures) ∙ not-true _ (c .if2 .taken))
 
 two : (c : tie.Else2) → tableTaken (c .before .before .before .before .before .args .table .now) ≡ true
 two c = sym (c .before .takes-table .ensures) ∙ not-false _ (c .if2 .left)
@@ -66,7 +66,7 @@ takes-entries-requires c κs = search needs
 returns-3 : tie.Need-returns-3
 returns-3 c =
     let e = c .before .before in
-    third _ _ _ (one (e .before .before)) (two e) (sym (c .before .takes-entries .ensures) ∙ not-true _ (c .if3 .taken))
+    third _ _ (e .before .before .before .before .before .args .hue) (one (e .before .before)) (two e) (sym (c .before .takes-entries .ensures) ∙ not-true _ (c .if3 .taken))
 
 three : (c : tie.Else3) → every entryTaken (c .before .before .before .before .before .before .before .args .table .now) ≡ true
 three c = sym (c .before .takes-entries .ensures) ∙ not-false _ (c .if3 .left)

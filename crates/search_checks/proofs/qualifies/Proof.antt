@@ -1,9 +1,9 @@
--- `search::qualifies` meets its contract: the code's 1 by its pattern is the specification's. Assumes nothing.
+-- `search_checks::qualifies` meets its contract: the code's 1 by its pattern is the specification's. Assumes nothing.
 use lib.Ieee.{ofBits, ofInt, neg}
 use borrow.Author.Needs.{needs}
 use Rattle.search_rules.specs.Job.{qualifies}
-use Rattle.search.proofs.qualifies.Statement.{statement}
-use Rattle.search.proofs.qualifies.Tie as tie
+use Rattle.search_checks.proofs.qualifies.Statement.{statement}
+use Rattle.search_checks.proofs.qualifies.Tie as tie
 
 l-of-requires : tie.Need-l-of-requires
 l-of-requires c κs = search needs
