@@ -9,14 +9,29 @@ ghost use Rattle.limits.specs.Answers.{value};
 ghost use Rattle.limits.specs.Refusals.{checkSaid};
 ghost use Rattle.placement_rules.specs.Placing.{checked, stepSaid, stepSays};
 
-// How far apart k hues must be, in half degrees.
+// How far apart k hues must be, in half degrees: ceil(600 / k) + 1, with a line for each k as the written separation rule has it.
 pub fn step_for(k: usize) -> Stepping
     ensures { λ r. ⌜ stepSaid r ≡ stepSays k ⌝ }
 {
-    if limits::takes_hue_count(k) {
-        return Stepping::Is((600 + (k - 1)) / k + 1);
+    match k {
+        1 => Stepping::Is(601),
+        2 => Stepping::Is(301),
+        3 => Stepping::Is(201),
+        4 => Stepping::Is(151),
+        5 => Stepping::Is(121),
+        6 => Stepping::Is(101),
+        7 => Stepping::Is(87),
+        8 => Stepping::Is(76),
+        9 => Stepping::Is(68),
+        10 => Stepping::Is(61),
+        11 => Stepping::Is(56),
+        12 => Stepping::Is(51),
+        13 => Stepping::Is(48),
+        14 => Stepping::Is(44),
+        15 => Stepping::Is(41),
+        16 => Stepping::Is(39),
+        0 | 17.. => Stepping::Declined(Refusal::HueCount),
     }
-    Stepping::Declined(Refusal::HueCount)
 }
 
 // Whether x is a number from 1 to most.
