@@ -9,7 +9,7 @@ ghost use Rattle.limits.specs.Answers.{value};
 ghost use Rattle.limits.specs.Refusals.{checkSaid};
 ghost use Rattle.placement_rules.specs.Placing.{checked, stepSaid, stepSays};
 
-// How far apart k hues must be, in half degrees: ceil(600 / k) + 1, with a line for each k as the written separation rule has it.
+// How far apart k hues must be, in half degrees: ceil(600 / k) + 1, a line for each k, to be read beside the written separation rule.
 pub fn step_for(k: usize) -> Stepping
     ensures { λ r. ⌜ stepSaid r ≡ stepSays k ⌝ }
 {
