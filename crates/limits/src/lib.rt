@@ -5,7 +5,7 @@ ghost use mathlib.Core.Bool.{not};
 ghost use Rattle.limits.specs.Refusals.{number};
 ghost use Rattle.limits.specs.Taken.{outside, signClear, upTo, hueCountTaken, gapTaken, chromaTaken, entryTaken, directionTaken, rootOperandTaken, hueOperandTaken, every, directionsTaken};
 
-// Why a call was refused. The comment is document 01's number.
+// Why a call was refused. The comment is document 01's number, from 18 on that of document 02.
 pub enum Refusal {
     // 1: hue count k not 1 to 16
     HueCount,
@@ -27,7 +27,7 @@ pub enum Refusal {
     Directions,
     // 10: row to fill not 720 long
     RowLength,
-    // 11: level index above 168
+    // 11: level index above 168, or not below the number of levels of the table that it is of
     LevelIndex,
     // 12: one of the first k hue indices above 719
     HueIndex,
@@ -41,6 +41,8 @@ pub enum Refusal {
     Operand,
     // 17: text line malformed
     Line,
+    // 18: list of levels empty, or of more than 8
+    LevelList,
 }
 
 // What some checks made one after the other found.
@@ -52,7 +54,7 @@ pub enum Checked {
 }
 
 impl Refusal {
-    // Document 01's number of a refusal.
+    // The number of a refusal.
     pub fn number(self) -> u8
         ensures { λ r. ⌜ r ≡ number self ⌝ }
     {
@@ -74,6 +76,7 @@ impl Refusal {
             Refusal::Broken => 15,
             Refusal::Operand => 16,
             Refusal::Line => 17,
+            Refusal::LevelList => 18,
         }
     }
 }
