@@ -8,6 +8,7 @@ pub mod Range
 pub mod Midway
 pub mod Width
 pub mod Plain
+pub mod Fractions
 pub mod Lower
 pub mod EndState
 pub mod Meeting

@@ -122,6 +122,12 @@ lt-then-le x y p q h =
     let l : toBits binary32 x < toBits binary32 y = ltb-true (toBits binary32 x) (toBits binary32 y) (sym (lt-plain x y p q) ∙ h) in
     le-plain x y p q ∙ le-leb (toBits binary32 x) (toBits binary32 y) (omega arith)
 
+-- two of which neither is below the other are one
+pub le-both : (x y : Float) → Plain x → Plain y → le x y ≡ true → le y x ≡ true → x ≡ y
+le-both x y p q h k =
+    let e : toBits binary32 x ≡ toBits binary32 y = le-antisymm (leb-true (toBits binary32 x) (toBits binary32 y) (sym (le-plain x y p q) ∙ h)) (leb-true (toBits binary32 y) (toBits binary32 x) (sym (le-plain y x q p) ∙ k)) in
+    sym (plain-is x p) ∙ ap (ofBits binary32) e ∙ plain-is y q
+
 -- ---- which f32 are such
 positive-pattern : (m : ℕ) (e : ℤ) → T (fits binary32 (fin false m e)) → Plain (fin false m e)
 unfolding rootOperandTaken signBit

@@ -149,7 +149,7 @@ all-plain (x ∷ xs) F h =
     let t = both (entryTaken x) (every entryTaken xs) h in
     (taken-is-plain x (F .0) (t .0), all-plain xs (F .1) (t .1))
 
-zero-plain : Plain (f32Of 0)
+pub zero-plain : Plain (f32Of 0)
 unfolding upTo signClear signBit isNan ofInt lt
 zero-plain = taken-plain (f32Of 0) (ofInt-fits binary32 (pos 0)) refl .0
 
@@ -171,7 +171,7 @@ module _ (rows : List (List Float)) (lengths : lengthsTaken rows ≡ true) (entr
       go (r ∷ rs) h = let t = both (eqb (length r) n) (alike n rs) h in (eqb-true (length r) n (t .0), go rs (t .1))
 
   -- the entries at a hue
-  column-plain : (i : ℕ) → i < n → Each Plain (map (λ r. getD r i nan) rows)
+  pub column-plain : (i : ℕ) → i < n → Each Plain (map (λ r. getD r i nan) rows)
   unfolding entriesTaken
   column-plain i h = go rows all-long entries f32
     where

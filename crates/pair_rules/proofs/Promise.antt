@@ -1,14 +1,16 @@
 -- What the best over some rows means, for rows and a floor that are f32. Where it is a chroma, all hues that are spaced have in common at most the upper end where the
--- halving stopped, whatever the floor is (`up-to-high`), and from a floor of 35 on it is the rows' limit (`best-is-limit`); where it is none, all such hues have less in
--- common than the floor (`none-is-none`). Assumes nothing.
+-- halving stopped, whatever the floor is (`up-to-high`): from a floor of 35 on it is the rows' limit (`best-is-limit`), and from any floor near it (`best-is-near`, and by
+-- fractions `near-by-fractions`); where it is none, all such hues have less in common than the floor (`none-is-none`). Assumes nothing.
 use mathlib.Core.Path.{_≡_, refl, sym, ap, _∙_, subst}
 use mathlib.Core.Logic.{_⊎_, inl, inr}
 use mathlib.Core.Bool.{Bool, true, false, cond}
 use mathlib.Core.List.{List}
-use Prim.Native.Nat.{ℕ, _≤_, _<_}
+use Prim.Native.Nat.{ℕ, _+_, _*_, _^_, _≤_, _<_}
+use native.Mathlib.Nat.{le-trans}
 use native.Mathlib.Omega.{arith}
 use lib.Dec.{leb}
 use lib.Ieee.{Float, binary32, toBits, lt, le}
+use lib.Ieee.Exact.{HasValue}
 use lib.ListN.{length, getD, take, replicate}
 use borrow.Author.Tests.{leb-true}
 use Rattle.limits.specs.Answers.{Said, value}
@@ -19,10 +21,13 @@ use Rattle.limits.proofs.Checks.{all-pass}
 use Rattle.limits.specs.Each.{Each, F32}
 use Rattle.halving.specs.Midpoint.{halved, halve}
 use Rattle.halving.specs.Patterns.{next}
+use Rattle.halving.specs.Ends.{Within}
 use Rattle.halving.proofs.Halve.{kept}
 use Rattle.halving.proofs.Range.{halve-up-to, taken-up-to, up-to-taken}
-use Rattle.halving.proofs.Plain.{Plain, le-through, not-lt-le, not-le-lt, le-not-lt, lt-then-le, taken-plain, next-plain, next-above}
-use Rattle.halving.proofs.EndState.{end-state, end-plain, end-above}
+use Rattle.halving.proofs.Patterns.{worth-le}
+use Rattle.halving.proofs.Plain.{Plain, le-plain, le-through, not-lt-le, not-le-lt, le-not-lt, lt-then-le, taken-plain, next-plain, next-above}
+use Rattle.halving.proofs.EndState.{end-state, end-plain, end-above, end-width}
+use Rattle.halving.proofs.Fractions.{by-fractions}
 use Rattle.placement_rules.specs.Ring.{Places, nowhere, placed, placement}
 use Rattle.placement_rules.specs.Placing.{allowedAt, sixteen, stores}
 use Rattle.placement_rules.specs.Spacing.{Spaced}
@@ -32,7 +37,7 @@ use Rattle.placement_rules.proofs.Stored.{first-stored}
 use Rattle.placement_rules.proofs.Allowed.{round}
 use Rattle.pair_rules.specs.Rows.{valueAt, ringLength, leastRow, largest, common}
 use Rattle.pair_rules.specs.Pair.{Best, none, found, placedAt, some, placeable, withHues, bestOver, lengthsTaken, entriesTaken, rowsChecked, rowsSay}
-use Rattle.pair_rules.specs.Limit.{RowsF32, Hues, Limit, Below}
+use Rattle.pair_rules.specs.Limit.{RowsF32, Hues, Limit, Near, Below}
 use Rattle.pair_rules.proofs.Rows.{least-long, least-taken, largest-up-to}
 use Rattle.pair_rules.proofs.Choices.{value-plain, most-plain, value-most, may-be-placed, spaced-hues, spaced-values, spaced-rows, to-common, of-common, common-plain, le-self, each-at}
 
@@ -171,14 +176,22 @@ module _ (k step : ℕ) (floor : Float) (rows : List (List Float)) (given : Give
           small : toBits binary32 (ends .0) < 2139095039
           small = let u = ends-plain .1 in omega arith
 
-      -- the hues that are placed there
-      is-limit : ((is : List ℕ) → Hues n k step is → le (common rows is) (next (ends .0)) ≡ true) → (js : List ℕ) → placedAt k step row (ends .0) ≡ placed js → Limit k step rows (ends .0) (stores (replicate 16 0) 0 js)
-      is-limit up js e = record {
-        placed = subst (λ (hs : List ℕ). Each (λ r. Spaced (allowedAt r (ends .0)) n k step hs) rows) (sym first) (spaced-rows rows lengths entries f32 (ends .0) (ends-plain .0 .0) k step js spaced);
-        reached = subst (λ (hs : List ℕ). le (ends .0) (common rows hs) ≡ true) (sym first)
-            (to-common rows lengths entries f32 (ends .0) (ends-plain .0 .0) k step js (spaced-hues rows lengths entries f32 (ends .0) (ends-plain .0 .0) k step js spaced) (spaced-values rows lengths entries f32 (ends .0) (ends-plain .0 .0) k step js spaced));
-        limit = up;
-      }
+      up-to-near : (is : List ℕ) → Hues n k step is → le (common rows is) (ends .1) ≡ true → Within (2 ^ 134) (ends .0, common rows is)
+      unfolding chromaTaken
+      up-to-near is s high =
+          let below = worth-le (leb-true (toBits binary32 (common rows is)) (toBits binary32 (ends .1)) (sym (le-plain (common rows is) (ends .1) (plain is s) (ends-plain .0 .1)) ∙ high)) in
+          le-trans below (end-width ok floor most F (most-plain rows lengths entries f32 .f32) taken most-taken floor-most)
+
+      -- the hues that are placed there, and what they reach
+      abbrev firsts : List ℕ → List ℕ
+      firsts js = take k (stores (replicate 16 0) 0 js)
+
+      reached-there : (js : List ℕ) → placedAt k step row (ends .0) ≡ placed js → Each (λ r. Spaced (allowedAt r (ends .0)) n k step (firsts js)) rows × (le (ends .0) (common rows (firsts js)) ≡ true)
+      reached-there js e = (
+        subst (λ (hs : List ℕ). Each (λ r. Spaced (allowedAt r (ends .0)) n k step hs) rows) (sym first) (spaced-rows rows lengths entries f32 (ends .0) (ends-plain .0 .0) k step js spaced),
+        subst (λ (hs : List ℕ). le (ends .0) (common rows hs) ≡ true) (sym first)
+            (to-common rows lengths entries f32 (ends .0) (ends-plain .0 .0) k step js (spaced-hues rows lengths entries f32 (ends .0) (ends-plain .0 .0) k step js spaced) (spaced-values rows lengths entries f32 (ends .0) (ends-plain .0 .0) k step js spaced)),
+      )
         where
           spaced : Spaced (allowedAt row (ends .0)) n k step js
           spaced = is-placed (ends .0) js e
@@ -248,7 +261,7 @@ up-to-high k step floor rows given F taken c hues h others s =
     let f = found-is k step floor (leastRow rows) c hues h in
     under-high k step floor rows given F taken (f .reaches) (f .starts) others s
 
--- ---- the two theorems
+-- ---- the theorems
 module _ (k step : ℕ) (floor : Float) (rows : List (List Float)) (room : ℕ) (F : F32 floor) (f32 : RowsF32 rows) where
   record Sound (best : Best) : Type 0 where
     given : Given k step rows
@@ -274,10 +287,18 @@ module _ (k step : ℕ) (floor : Float) (rows : List (List Float)) (room : ℕ) 
   best-is-limit c hues from h =
       let s = said (found c hues) h in
       let f = found-is k step floor (leastRow rows) c hues (s .is) in
+      let r = reached-there k step floor rows (s .given) F (s .taken) (f .reaches) (f .starts) (f .indices) (f .there) in
       let up : (others : List ℕ) → Hues (ringLength rows) k step others → le (common rows others) (next (last k step floor (leastRow rows))) ≡ true = λ others sp. up-to-next k step floor rows (s .given) F (s .taken) (f .reaches) (f .starts) from others sp (up-to-high k step floor rows (s .given) F (s .taken) c hues (s .is) others sp) in
-      subst (λ (x : Float). Limit k step rows x hues) (f .chroma)
-      (subst (Limit k step rows (last k step floor (leastRow rows))) (f .handed)
-      (is-limit k step floor rows (s .given) F (s .taken) (f .reaches) (f .starts) up (f .indices) (f .there)))
+      subst (λ (x : Float). Limit k step rows x hues) (f .chroma) (subst (Limit k step rows (last k step floor (leastRow rows))) (f .handed) (record { placed = r .0; reached = r .1; limit = up }))
+
+  pub best-is-near : (c : Float) (hues : List ℕ) → rowsSay k step floor rows room ≡ value (found c hues) → Near k step rows c hues
+  unfolding halve
+  best-is-near c hues h =
+      let s = said (found c hues) h in
+      let f = found-is k step floor (leastRow rows) c hues (s .is) in
+      let r = reached-there k step floor rows (s .given) F (s .taken) (f .reaches) (f .starts) (f .indices) (f .there) in
+      let up : (others : List ℕ) → Hues (ringLength rows) k step others → Within (2 ^ 134) (last k step floor (leastRow rows), common rows others) = λ others sp. up-to-near k step floor rows (s .given) F (s .taken) (f .reaches) (f .starts) others sp (up-to-high k step floor rows (s .given) F (s .taken) c hues (s .is) others sp) in
+      subst (λ (x : Float). Near k step rows x hues) (f .chroma) (subst (Near k step rows (last k step floor (leastRow rows))) (f .handed) (record { placed = r .0; reached = r .1; limit = up }))
 
   -- what is handed out, from any floor: a chroma from the floor to 200, and sixteen hues of which the first k are spaced and the others zero
   pub record Handed (c : Float) (hues : List ℕ) : Type 0 where
@@ -301,6 +322,15 @@ module _ (k step : ℕ) (floor : Float) (rows : List (List Float)) (room : ℕ) 
         stored = f .handed;
         spaced = placed-hues k step floor rows (s .given) F (s .taken) (f .reaches) (f .starts) (f .indices) (f .there);
       })
+
+  -- what that says by fractions: where other hues have a / d in common and c is b / d, a / d is at most 2 ^ -15 above b / d
+  pub near-by-fractions : (c : Float) (hues : List ℕ) → rowsSay k step floor rows room ≡ value (found c hues) → (others : List ℕ) → Hues (ringLength rows) k step others
+      → (a b d : ℕ) → 0 < d → HasValue (common rows others) false a d → HasValue c false b d → a * 2 ^ 15 ≤ b * 2 ^ 15 + d
+  unfolding chromaTaken
+  near-by-fractions c hues h others sp a b d D v w =
+      let s = said (found c hues) h in
+      let i = what-is-handed c hues h in
+      by-fractions c (common rows others) (taken-plain c (i .f32-is) (i .in-range) .0) (plain k step floor rows (s .given) others sp) a b d D v w (best-is-near c hues h .limit others sp)
 
   pub none-is-none : rowsSay k step floor rows room ≡ value none → Below k step rows floor
   unfolding halve

@@ -45,12 +45,17 @@ module _ (rows : List (List Float)) where
       let n = ringLength rows in
       ext-getD nan row (leastRow rows) (e ∙ sym least-long) (λ (i : ℕ) (h : i < length row). let u : i < n = omega arith in f i u ∙ sym (least-at i u))
 
--- the value at a hue of two rows
+-- the value at a hue of one row, and of two
 no-more : (x : Float) → lesser x (inf false) ≡ x
 unfolding lesser lt
 no-more nan = refl
 no-more (inf s) = refl
 no-more (fin s m e) = refl
+
+-- one row is its own row of least values
+pub least-of-one : (row : List Float) → leastRow (row ∷ []) ≡ row
+unfolding valueAt least
+least-of-one row = sym (least-is (row ∷ []) row refl (λ (i : ℕ) (h : i < length row). sym (no-more (getD row i nan))))
 
 pub of-two : (a b : List Float) (i : ℕ) → valueAt (a ∷ b ∷ []) i ≡ lesser (getD a i nan) (getD b i nan)
 unfolding valueAt least

@@ -1,14 +1,14 @@
-// What the best of a pair hands back. The rule, over any number of rows, and what it means stand in specs/ and proofs/; the code is
+// What the best of a pair hands back, and that of a set of levels. The rule, over any number of rows, and what it means stand in specs/ and proofs/; the code is
 // the crate `pair`.
 use limits::Refusal;
 
-// The best of a pair.
+// The best of a pair, of one row, or of a set of levels.
 pub enum Answer {
     // the last chroma placed, with the first k of the hues beside it
     Found(f32),
-    // nothing is placed at the floor
+    // nothing is placed at the floor; of a set of levels, no hue has a value above 0
     Nothing,
-    // refused by 1, 3, 4, 5, 7 or 8
+    // refused by 1, 3, 4, 5, 7 or 8; a set of levels by 1, 6, 8, 18, 11 or 7
     Refused(Refusal),
 }
 
