@@ -1,7 +1,7 @@
--- What the checks of some rows say, whatever a good call says after them: all pass and it is said, or one fails and its number is; and how those of two rows are
--- those of each row. Assumes nothing.
+-- What the checks of some rows say, whatever a good call says after them: all pass and it is said, or one fails and its number is; and how those of one row are those of a
+-- placement, and those of two rows those of each row. Assumes nothing.
 use mathlib.Core.Path.{_≡_, refl, sym, ap, _∙_}
-use mathlib.Core.Bool.{Bool, true, false, _&&_, cond}
+use mathlib.Core.Bool.{Bool, true, false, _&&_, cond, and-true}
 use mathlib.Core.List.{List, [], _∷_}
 use Prim.Native.Nat.{ℕ, _≤_}
 use native.Mathlib.Omega.{arith}
@@ -21,7 +21,7 @@ use Rattle.placement_rules.specs.Placing.{workNeeded, checked}
 use Rattle.placement_rules.proofs.Checking.{checks, ring-passes}
 use Rattle.pair_rules.specs.Rows.{ringLength, leastRow}
 use Rattle.pair_rules.specs.Pair.{bestOver, alike, lengthsTaken, entriesTaken, rowsChecked, rowsSay}
-use Rattle.pair_rules.proofs.Rows.{least-long, least-taken}
+use Rattle.pair_rules.proofs.Rows.{least-long, least-of-one, least-taken}
 
 -- ---- any number of rows
 module _ (k step : ℕ) (floor : Float) (rows : List (List Float)) (room : ℕ) where
@@ -57,6 +57,18 @@ module _ (k step : ℕ) (floor : Float) (rows : List (List Float)) (room : ℕ) 
       let l = both (alike n rows) (leb 1 n && leb n 720) (t .2) in
       let e = least-taken rows (t .2) (t .4) in
       rw (least-long rows, t .0, t .1, l .1, t .3, e, t .5)
+
+-- ---- one row: its checks are those of a placement on it
+pub one-checked : {A : Type 0} (k step : ℕ) (floor : Float) (row : List Float) (room : ℕ) (x : Said A) → checked k step floor row room x ≡ rowsChecked k step floor (row ∷ []) room x
+unfolding checked rowsChecked lengthsTaken alike entriesTaken
+one-checked k step floor row room x = sym (rw (eq-eqb (length row) (length row) refl, and-true (every entryTaken row)))
+
+module _ (k step : ℕ) (floor : Float) (row : List Float) (room : ℕ) (r : Checked) (says : checkSaid r ≡ checked k step floor row room pass) where
+  pub one-refusing : (w : Refusal) → r ≡ Wrong w → rowsSay k step floor (row ∷ []) room ≡ refused (number w)
+  one-refusing w f = refusing k step floor (row ∷ []) room r w f (says ∙ one-checked k step floor row room pass)
+
+  pub one-passing : r ≡ Fine → rowsSay k step floor (row ∷ []) room ≡ value (bestOver k step floor row)
+  one-passing f = passing k step floor (row ∷ []) room r f (says ∙ one-checked k step floor row room pass) ∙ ap (λ (x : List Float). value (bestOver k step floor x)) (least-of-one row)
 
 -- ---- two rows
 -- six checks with the entries of two rows, by those of each row

@@ -1,4 +1,4 @@
-// One pair: `best_for_levels` of xtask/src/palette.rs, over two lent rows.
+// One pair: `best_for_levels` of xtask/src/palette.rs, over two lent rows; and the same over one row.
 use limits::Checked;
 pub use pair_rules::Answer;
 pub use pair_rules::Chosen;
@@ -9,8 +9,8 @@ ghost use lib.ListN.{length};
 ghost use Rattle.limits.specs.Answers.{value, refused};
 ghost use Rattle.limits.specs.Refusals.{checkSaid};
 ghost use Rattle.pair_rules.specs.Rows.{leastRow, largest};
-ghost use Rattle.pair_rules.specs.Pair.{none, found, bestOver, rowsChecked, pairSays, huesBeside, answers};
-ghost use Rattle.pair.specs.Inner.{Taken, Ready, There, Stands, Turned, Gives};
+ghost use Rattle.pair_rules.specs.Pair.{none, found, bestOver, rowsChecked, rowsSay, pairSays, huesBeside, answers};
+ghost use Rattle.pair.specs.Inner.{Taken, Lent, Ready, There, Stands, Turned, Gives};
 
 // Nothing is found.
 fn nothing() -> Chosen
@@ -157,6 +157,17 @@ fn climb(row: &[f32], k: usize, step: usize, floor: f32, most: f32, work: &mut [
     rounds(row, k, step, floor, most, hues, work)
 }
 
+// The same, where the largest may be below the floor.
+fn from_floor(row: &[f32], k: usize, step: usize, floor: f32, most: f32, work: &mut [u16]) -> Chosen
+    requires { ⌜ Lent k step floor most (now row) (length (now work)) ⌝ }
+    ensures { λ r. ⌜ Gives r (bestOver k step floor (now (row .entry))) ⌝ }
+{
+    if most < floor {
+        return nothing();
+    }
+    climb(row, k, step, floor, most, work)
+}
+
 // The best of two rows that are taken.
 fn best(a: &[f32], b: &[f32], k: usize, step: usize, floor: f32, work: &mut [u16]) -> Chosen
     requires { ⌜ Taken k step floor (now a ∷ now b ∷ []) (length (now work)) ⌝ }
@@ -165,10 +176,7 @@ fn best(a: &[f32], b: &[f32], k: usize, step: usize, floor: f32, work: &mut [u16
     let mut least = [0.0f32; 720];
     let n = a.len();
     let most = lesser_row(a, b, &mut least[0..n]);
-    if most < floor {
-        return nothing();
-    }
-    climb(&least[0..n], k, step, floor, most, work)
+    from_floor(&least[0..n], k, step, floor, most, work)
 }
 
 // The best chroma from a floor up at which k hues, at least `step` apart all round, have an entry of at least it in both rows, by
@@ -191,5 +199,36 @@ pub fn best_for_levels(
             hues: [0u16; 16],
         },
         Checked::Fine => best(a, b, k, step, floor, work),
+    }
+}
+
+// The largest of a row's values, and 0 where none is above it.
+pub fn largest(row: &[f32]) -> f32
+    ensures { λ r. ⌜ r ≡ largest (now (row .entry)) ⌝ }
+{
+    let mut most: f32 = 0.0;
+    let mut i = 0;
+    while i < row.len() {
+        let value = row[i];
+        if most < value {
+            most = value;
+        }
+        i += 1;
+    }
+    most
+}
+
+// The best chroma of one row, as of two: from a floor up, for k hues at least `step` apart all round, by 30 halvings.
+pub fn best_for_row(row: &[f32], k: usize, step: usize, floor: f32, work: &mut [u16]) -> Chosen
+    ensures { λ r. ⌜ (answers (r .answer) (r .hues) ≡ rowsSay k step floor (now (row .entry) ∷ []) (length (now (work .entry)))) × (r .hues ≡ huesBeside (rowsSay k step floor (now (row .entry) ∷ []) (length (now (work .entry))))) ⌝ }
+    ensures { λ r. ⌜ ((w : ℕ) → rowsSay k step floor (now (row .entry) ∷ []) (length (now (work .entry))) ≡ refused w → now (work .exit) ≡ now (work .entry)) ⌝ }
+{
+    let checked = placement_checks::check(row, floor, k, step, work.len());
+    match checked {
+        Checked::Wrong(refusal) => Chosen {
+            answer: Answer::Refused(refusal),
+            hues: [0u16; 16],
+        },
+        Checked::Fine => from_floor(row, k, step, floor, largest(row), work),
     }
 }

@@ -1,19 +1,17 @@
--- `pair::best` meets its contract: the row of least values is the front of the array, and its largest is below the floor or is climbed to. Assumes nothing.
+-- `pair::best` meets its contract: the row of least values is the front of the array, with its largest. Assumes nothing.
 use mathlib.Core.Path.{_≡_, sym, ap, _∙_, subst}
-use mathlib.Core.Bool.{true}
 use mathlib.Core.List.{List, [], _∷_, _++_}
 use Prim.Native.Nat.{ℕ, _-_}
 use native.Mathlib.Nat.{sub-zero}
 use native.Mathlib.Omega.{arith}
-use lib.Ieee.{Float, lt}
+use lib.Ieee.{Float}
 use lib.ListN.{length, take, length-append}
 use lib.Seq.{take-at}
 use Rattle.pair_rules.specs.Rows.{leastRow, largest}
 use Rattle.pair_rules.specs.Pair.{bestOver}
-use Rattle.pair.specs.Inner.{Ready, Gives}
+use Rattle.pair.specs.Inner.{Lent, Gives}
 use Rattle.pair_rules.proofs.Rows.{least-long}
 use Rattle.pair.proofs.Checking.{short, least-checked, two-alike}
-use Rattle.pair.proofs.Climbing.{too-high}
 use borrow.Author.Needs.{needs}
 use Rattle.pair.proofs.best.Statement.{statement}
 use Rattle.pair.proofs.best.Tie as tie
@@ -43,55 +41,42 @@ lesser-row-requires c κs =
     let long = sym (sub-zero (length (a .a .now))) ∙ c .least .given .1 in
     (long, same ∙ long)
 
-nothing-requires : tie.Need-nothing-requires
-nothing-requires c κs = search needs
+sub-from-floor : tie.Need-sub-from-floor
+sub-from-floor c = search needs
 
-returns : tie.Need-returns
-returns c =
-    let f = c .before .before .before in
-    let s = f .before .before .before .before .before in
-    let a = s .args in
-    let e = f .lesser-row .ensures in
-    let low : lt (largest (leastRow (a .a .now ∷ a .b .now ∷ []))) (a .floor) ≡ true = ap (λ (x : Float). lt x (a .floor)) (sym (e .1 ∙ ap largest (e .0))) ∙ c .before .if1 .taken in
-    subst (Gives (c .nothing .result)) (sym (too-high (a .k) (a .step) (leastRow (a .a .now ∷ a .b .now ∷ [])) (a .floor) low)) (c .nothing .ensures)
+part-from-floor-start : tie.Need-part-from-floor-start
+part-from-floor-start c = search needs
 
-sub-climb : tie.Need-sub-climb
-sub-climb c = search needs
-
-part-climb-start : tie.Need-part-climb-start
-part-climb-start c = search needs
-
-part-climb-end : tie.Need-part-climb-end
-part-climb-end c =
-    let f = c .before .before .before in
+part-from-floor-end : tie.Need-part-from-floor-end
+part-from-floor-end c =
+    let f = c .before .before in
     let s = f .before .before .before .before .before in
     let a = s .args in
     let e = ap length (f .lesser-row .ensures .0) ∙ least-long (a .a .now ∷ a .b .now ∷ []) in
     simp length-append (omega arith)
 
-climb-requires : tie.Need-climb-requires
-climb-requires c κs =
-    let o = c .before .before .before in
-    let f = o .before .before in
+from-floor-requires : tie.Need-from-floor-requires
+from-floor-requires c κs =
+    let f = c .before .before .before .before in
     let s = f .before .before .before .before .before in
     let a = s .args in
     let rows = a .a .now ∷ a .b .now ∷ [] in
     let room = length (a .work .now) in
     let e = f .lesser-row .ensures in
-    let ready : Ready (a .k) (a .step) (a .floor) (f .lesser-row .result) (leastRow rows) room = record { fine = least-checked (a .k) (a .step) (a .floor) rows room (s .pre); top = e .1 ∙ ap largest (e .0); above = o .if1 .left } in
-    subst (λ (row : List Float). Ready (a .k) (a .step) (a .floor) (f .lesser-row .result) row room) (sym (front _ _ (leastRow rows) (length (a .a .now)) (e .0) (least-long rows))) ready
+    let lent : Lent (a .k) (a .step) (a .floor) (f .lesser-row .result) (leastRow rows) room = record { fine = least-checked (a .k) (a .step) (a .floor) rows room (s .pre); top = e .1 ∙ ap largest (e .0) } in
+    subst (λ (row : List Float). Lent (a .k) (a .step) (a .floor) (f .lesser-row .result) row room) (sym (front _ _ (leastRow rows) (length (a .a .now)) (e .0) (least-long rows))) lent
 
 same-length : tie.Need-same-length
 same-length c = search needs
 
-returns-2 : tie.Need-returns-2
-returns-2 c =
+returns : tie.Need-returns
+returns c =
     let t = c .before .before in
-    let f = t .before .before .before .before .before .before in
+    let f = t .before .before .before .before .before in
     let s = f .before .before .before .before .before in
     let a = s .args in
     let rows = a .a .now ∷ a .b .now ∷ [] in
-    subst (λ (row : List Float). Gives (t .climb .result) (bestOver (a .k) (a .step) (a .floor) row)) (front _ _ (leastRow rows) (length (a .a .now)) (f .lesser-row .ensures .0) (least-long rows)) (t .climb .ensures)
+    subst (λ (row : List Float). Gives (t .from-floor .result) (bestOver (a .k) (a .step) (a .floor) row)) (front _ _ (leastRow rows) (length (a .a .now)) (f .lesser-row .ensures .0) (least-long rows)) (t .from-floor .ensures)
 
 pub best-spec : {M : Type 1} → statement M
 best-spec =
@@ -101,11 +86,9 @@ best-spec =
     part-least-start
     part-least-end
     lesser-row-requires
-    nothing-requires
-    returns
-    sub-climb
-    part-climb-start
-    part-climb-end
-    climb-requires
+    sub-from-floor
+    part-from-floor-start
+    part-from-floor-end
+    from-floor-requires
     same-length
-    returns-2)
+    returns)
