@@ -1,6 +1,6 @@
 -- The shape of a table that is taken (`levelled`), and its rows: how long they are, which of the table's entries theirs are, that they are taken where the table's are, and that
 -- they are f32 where the table's are. Assumes nothing.
-use mathlib.Core.Path.{_≡_, _∙_}
+use mathlib.Core.Path.{_≡_, ap, _∙_}
 use mathlib.Core.Bool.{Bool, true, _&&_}
 use mathlib.Core.List.{List}
 use Prim.Native.Nat.{ℕ, suc, _+_, _-_, _*_, _≤_, _<_}
@@ -45,6 +45,14 @@ row-long table n i e h =
     let y : suc i * 720 ≡ i * 720 + 720 = suc-mul i 720 in
     let z : length (drop (i * 720) table) ≡ length table - i * 720 = length-drop (i * 720) table in
     length-take 720 (drop (i * 720) table) ∙ min-eq-left (omega arith)
+
+-- a row as code lends it, from its first place to that and 720
+abbrev pub part : List Float → ℕ → List Float
+part table i = take (i * 720 + 720 - i * 720) (drop (i * 720) table)
+
+pub part-row : (table : List Float) (i : ℕ) → part table i ≡ rowAt table i
+unfolding rowAt
+part-row table i = let e : i * 720 + 720 - i * 720 ≡ 720 = omega arith in ap (λ (n : ℕ). take n (drop (i * 720) table)) e
 
 pub row-entry : (table : List Float) (i h : ℕ) → h < 720 → getD (rowAt table i) h nan ≡ getD table (i * 720 + h) nan
 unfolding rowAt

@@ -2,16 +2,14 @@
 use mathlib.Core.Path.{_≡_, refl, sym, ap, _∙_}
 use mathlib.Core.Bool.{Bool, true, false, _&&_, cond}
 use mathlib.Core.List.{List, [], _∷_}
-use Prim.Native.Nat.{ℕ, _+_, _-_, _*_}
-use native.Mathlib.Omega.{arith}
+use Prim.Native.Nat.{ℕ}
 use lib.Ieee.{Float}
-use lib.ListN.{take, drop}
 use Rattle.limits.specs.Answers.{Said, value, refused}
 use Rattle.limits.specs.Refusals.{number}
 use Rattle.limits.specs.Taken.{entryTaken, every}
 use Rattle.limits.specs.declared.Refusal.{Refusal}
 use Rattle.gamut.specs.Table.{rowAt}
-use Rattle.gamut.proofs.Table.{row-long}
+use Rattle.gamut.proofs.Table.{row-long, part, part-row}
 use Rattle.placement_rules.specs.Placing.{stepFor}
 use Rattle.pair_rules.specs.declared.Answer.{Answer}
 use Rattle.pair_rules.specs.declared.Answer.the-variants.{Found, Nothing, Refused}
@@ -24,16 +22,7 @@ use Rattle.search_rules.proofs.Unbroken.{sound}
 use Rattle.search_rules.proofs.Floor.{floor-taken}
 use Rattle.search_rules.proofs.Rows.{step-taken, rows-left}
 
--- ---- the rows
--- a row as the code lends it
-abbrev pub part : List Float → ℕ → List Float
-part table i = take (i * 720 + 720 - i * 720) (drop (i * 720) table)
-
-part-row : (table : List Float) (i : ℕ) → part table i ≡ rowAt table i
-unfolding rowAt
-part-row table i = let e : i * 720 + 720 - i * 720 ≡ 720 = omega arith in ap (λ (n : ℕ). take n (drop (i * 720) table)) e
-
--- what `pair` says of the two rows
+-- ---- what `pair` says of the two rows
 pub pair-says :
     (j : Job) (table : List Float) (room d l step : ℕ) (floor : Float) → Stepped j table room d l → step ≡ stepFor (j .settings .k) → floor ≡ floorOf (j .best) →
     pairSays (j .settings .k) step floor (part table d) (part table l) room ≡ pairGiven j table d l

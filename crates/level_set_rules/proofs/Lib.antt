@@ -1,0 +1,5 @@
+pub mod Evenly
+pub mod Accepted
+pub mod Named
+pub mod Set
+pub mod Repeats
