@@ -19,6 +19,7 @@ ghost use Rattle.srgb.specs.Parts.{toHex};
 ghost use Rattle.palette.specs.BackOff.{backOffSays};
 ghost use Rattle.handing.specs.Numbers.{numberOf, placeNumber, huesAfter, bestNumber, bestHues, bestChroma};
 ghost use Rattle.orientation_rules.specs.Orientation.{orientationSays};
+ghost use Rattle.level_set_rules.specs.Set.{setSays};
 ghost use Rattle.exports.specs.Numbers.{settingsOf, handed, searchHands, orientationHands, designOf, backed, backOffHands};
 
 // What is given where no chroma is found.
@@ -155,6 +156,38 @@ pub extern "C" fn tengcuvo_orientation(
             *chroma = [reached];
             0
         }
+    }
+}
+
+// The best chroma of the levels named, 1 to 8 indices of a table's levels, for k hues at least the step for k apart all round: gives 0
+// with the chroma and sixteen hues, 255 with zeros for hues and the chroma as before where no hue has a value above 0, or the number of
+// a refusal, with the hues, the chroma and the work buffer as before.
+#[no_mangle]
+pub extern "C" fn tengcuvo_level_set(
+    table: &[f32],
+    levels: &[usize],
+    k: usize,
+    work: &mut [u16],
+    hues: &mut [u16; 16],
+    chroma: &mut [f32; 1],
+) -> u32
+    ensures { λ r. ⌜ (r ≡ bestNumber (setSays k (now (table .entry)) (now (levels .entry)) (length (now (work .entry))))) × ((now (hues .exit) ≡ bestHues (setSays k (now (table .entry)) (now (levels .entry)) (length (now (work .entry)))) (now (hues .entry))) × (now (chroma .exit) ≡ bestChroma (setSays k (now (table .entry)) (now (levels .entry)) (length (now (work .entry)))) (now (chroma .entry)))) ⌝ }
+    ensures { λ r. ⌜ ((w : ℕ) → setSays k (now (table .entry)) (now (levels .entry)) (length (now (work .entry))) ≡ refused w → now (work .exit) ≡ now (work .entry)) ⌝ }
+{
+    let chosen = level_set::best_for_level_set(table, levels, k, work);
+    let answer = chosen.answer;
+    let given = chosen.hues;
+    match answer {
+        level_set::Answer::Found(reached) => {
+            *hues = given;
+            *chroma = [reached];
+            0
+        }
+        level_set::Answer::Nothing => {
+            *hues = given;
+            NO_CHROMA
+        }
+        level_set::Answer::Refused(why) => why.number() as u32,
     }
 }
 
