@@ -1,6 +1,6 @@
 //! Times the filling of a whole gamut table, placements on rings of it, pairs of its rows, whole
-//! searches of it, its bests with one hue fixed, and back-offs of what the searches find, by our
-//! archive and by the published Rust, in turns. See compare/README.md.
+//! searches of it, its bests with one hue fixed and over sets of levels, and back-offs of what the
+//! searches find, by our archive and by the published Rust, in turns. See compare/README.md.
 
 mod back_offs;
 mod big;
@@ -9,8 +9,9 @@ mod chroma; // max_chroma and l_of, taken from the published file by compare/bui
 mod color; // the published file, patched by compare/build
 mod deriving; // derive and back_off, taken from the published file by compare/build
 mod findings;
+mod level_sets;
 mod orientations;
-mod pairing; // best_for_levels, search, best_at_orientation and their table, taken from the published file by compare/build
+mod pairing; // best_for_levels, best_for_level_set, search, best_at_orientation and their table, taken from the published file by compare/build
 mod palette; // the white point, taken from the published file by compare/build
 mod placing; // feasible, place_from and the step, taken from the published file by compare/build
 #[allow(dead_code)]
@@ -21,13 +22,14 @@ mod validating; // a palette and its validation, taken from the published file b
 use standins::{BAD_DIRECTIONS, BAD_LEVEL, BAD_ROW, DIRECTIONS, LEVELS};
 use std::time::Instant;
 
-/// How many times each side fills its table, makes all placements, and searches all pairs.
+/// How many times each side fills its table, makes all placements, searches all pairs, and gives the
+/// bests of all sets of levels for one hue count.
 const TURNS: usize = 41;
 /// How many times each side searches the whole table for one hue count.
 const SEARCH_TURNS: usize = 15;
 /// What each hue is before a placement.
 const BEFORE: u16 = 4711;
-/// What the chroma is before a pair, a search, a best with one hue fixed or a back-off.
+/// What the chroma is before a pair, a search, a best of any kind or a back-off.
 const BEFORE_CHROMA: f32 = 47.11;
 /// What each level index is before a search or a best with one hue fixed.
 const BEFORE_LEVEL: usize = 471_147;
@@ -359,7 +361,7 @@ fn pairs() -> Vec<Pair> {
     pairs
 }
 
-/// What a pair gives: the number, the hues, and the bits of the chroma.
+/// What a pair or a set of levels gives: the number, the hues, and the bits of the chroma.
 type Best = (u32, [u16; 16], u32);
 
 /// Searches a pair of rows by our archive.
@@ -417,7 +419,7 @@ fn pair_refusals() {
     }
 }
 
-/// What our archive must give where the published Rust gives this.
+/// What our archive must give where the published Rust gives this for a pair or a set of levels.
 fn expected(theirs: &Option<(f32, Vec<usize>)>) -> Best {
     let mut hues = [0; 16];
     let Some((chroma, given)) = theirs else {
@@ -555,7 +557,7 @@ fn searches(table: &[f32]) {
     println!("all searches are equal bit for bit");
 }
 
-/// Tries the refusals, then times the six parts.
+/// Tries the refusals, then times the seven parts.
 fn main() {
     let (cos, sin) = standins::directions();
     refusals(&cos, &sin);
@@ -563,11 +565,13 @@ fn main() {
     pair_refusals();
     search_refusals();
     orientations::refusals();
+    level_sets::refusals();
     back_offs::refusals(&cos, &sin);
     let table = tables(&cos, &sin);
     placements(&table);
     bests(&table);
     searches(&table);
     orientations::all(&table);
+    level_sets::all(&table);
     back_offs::all(&table, &cos, &sin);
 }

@@ -9,11 +9,11 @@ use crate::standins::{DIRECTIONS, LEVELS};
 
 /// Refusals: the hue count, the gap, the table's length, an entry, the work buffer, a finished
 /// job, a broken record.
-const BAD_HUE_COUNT: u32 = 1;
+pub const BAD_HUE_COUNT: u32 = 1;
 const BAD_GAP: u32 = 2;
-const BAD_TABLE: u32 = 6;
-const BAD_ENTRY: u32 = 7;
-const BAD_WORK: u32 = 8;
+pub const BAD_TABLE: u32 = 6;
+pub const BAD_ENTRY: u32 = 7;
+pub const BAD_WORK: u32 = 8;
 const FINISHED: u32 = 14;
 const BROKEN: u32 = 15;
 /// The least chroma that a palette may have.
@@ -119,15 +119,17 @@ impl Job {
     }
 }
 
+/// Whether a table has a number of whole rows that is taken.
+pub fn whole_rows(table: &[f32]) -> bool {
+    let levels = table.len() / DIRECTIONS;
+    table.len() == levels * DIRECTIONS && (1..=LEVELS).contains(&levels)
+}
+
 /// The number of the first refusal of a gap and a whole table.
 pub fn table_refusal(gap: f32, table: &[f32]) -> Option<u32> {
-    let levels = table.len() / DIRECTIONS;
     let asked = [
         (BAD_GAP, takes_gap(gap)),
-        (
-            BAD_TABLE,
-            table.len() == levels * DIRECTIONS && (1..=LEVELS).contains(&levels),
-        ),
+        (BAD_TABLE, whole_rows(table)),
         (BAD_ENTRY, table.iter().copied().all(takes)),
     ];
     asked

@@ -12,12 +12,14 @@ mod findings;
 mod gamut;
 mod gamut_lists;
 mod job;
+mod level_set;
+mod level_set_lists;
 mod lists;
 mod orientation;
 mod orientation_lists;
 mod pair;
 mod pair_lists;
-mod pairing; // best_for_levels, search, best_at_orientation and their table, taken from the published file by compare/build
+mod pairing; // best_for_levels, best_for_level_set, search, best_at_orientation and their table, taken from the published file by compare/build
 mod palette; // the white point, taken from the published file by compare/build
 mod palette_edges;
 mod palette_lists;
@@ -75,6 +77,10 @@ fn main() -> ExitCode {
             (Ok(seed), Ok(count)) => orientation_lists::many(&mut out, seed, count),
             _ => return usage(),
         },
+        ["level-set-many", seed, count] => match (seed.parse(), count.parse()) {
+            (Ok(seed), Ok(count)) => level_set_lists::many(&mut out, seed, count),
+            _ => return usage(),
+        },
         ["palette-list"] => palette_lists::fixed(&mut out),
         ["palette-many", seed, count] => match (seed.parse(), count.parse()) {
             (Ok(seed), Ok(count)) => palette_lists::many(&mut out, seed, count),
@@ -100,6 +106,7 @@ fn usage() -> ExitCode {
     eprintln!("       driver placement-list | placement-all | placement-many SEED COUNT");
     eprintln!("       driver pair-list | pair-many SEED COUNT");
     eprintln!("       driver search-list | search-many SEED COUNT | orientation-many SEED COUNT");
+    eprintln!("       driver level-set-many SEED COUNT");
     eprintln!("       driver palette-list | palette-many SEED COUNT");
     ExitCode::from(2)
 }

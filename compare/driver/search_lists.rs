@@ -1,6 +1,7 @@
 //! Which cases the lists of search cases hold.
 
 use crate::job::{Job, FLOOR, ROOM};
+use crate::level_set_lists;
 use crate::lists::step as float_step;
 use crate::orientation_lists;
 use crate::placement_lists::{EDGES, REFUSED};
@@ -21,7 +22,7 @@ pub const BAD_GAPS: [f32; 7] = [
     f32::NEG_INFINITY,
 ];
 /// Hue counts that are refused, one of which is taken where its high bits get lost.
-const BAD_COUNTS: [u32; 4] = [0, 17, u32::MAX, 257];
+pub const BAD_COUNTS: [u32; 4] = [0, 17, u32::MAX, 257];
 /// Chromas that no best may have.
 const BAD_CHROMAS: [f32; 8] = [
     34.9,
@@ -59,7 +60,8 @@ pub fn fixed(out: &mut dyn Write) -> io::Result<()> {
     whole_panel(&mut list)?;
     wrong_lists::searches(&mut list)?;
     list.end()?;
-    orientation_lists::fixed(&mut list)
+    orientation_lists::fixed(&mut list)?;
+    level_set_lists::fixed(&mut list)
 }
 
 /// Writes a random list of at least this many calls, 24 or more over the same table, of which
@@ -475,11 +477,11 @@ fn whole_panel(list: &mut Searches) -> io::Result<()> {
 }
 
 /// How many kinds of random tables there are, and how many of them take few lines.
-const KINDS: usize = 9;
+pub const KINDS: usize = 9;
 pub const CHEAP: usize = 7;
 
 /// A row of a few bands, each of one of these values.
-fn banded(random: &mut Random, values: &[f32]) -> Vec<f32> {
+pub fn banded(random: &mut Random, values: &[f32]) -> Vec<f32> {
     let mut ends: Vec<usize> = (0..random.below(6)).map(|_| random.below(720)).collect();
     ends.push(0);
     ends.sort_unstable();

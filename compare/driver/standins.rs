@@ -8,7 +8,7 @@ use std::sync::OnceLock;
 pub const BAD_DIRECTIONS: u32 = 9;
 /// Refusal: a row to fill is not 720 long.
 pub const BAD_ROW: u32 = 10;
-/// Refusal: a level index is above 168.
+/// Refusal: a level index is above 168, or not below a table's number of levels.
 pub const BAD_LEVEL: u32 = 11;
 /// Refusal: a root's or a hue's operand lies outside its limits.
 pub const BAD_NUMBER: u32 = 16;

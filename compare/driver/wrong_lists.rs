@@ -4,6 +4,7 @@
 use crate::cases::{word, List};
 use crate::gamut::{chroma_words, lightness_words, Lent};
 use crate::job::{Job, FLOOR, ROOM};
+use crate::level_set::LevelSets;
 use crate::lists::step as float_step;
 use crate::orientation::Orientations;
 use crate::pair::Pairs;
@@ -255,6 +256,38 @@ pub fn orientations(list: &mut Orientations) -> io::Result<()> {
         words[2] = 0;
         words.extend([word(50.0), 0, 2, 301]);
     })
+}
+
+/// Writes calls with a list of levels of which the number, the kind of the answer, the chroma or the
+/// first or the last hue is another.
+pub fn level_sets(list: &mut LevelSets) -> io::Result<()> {
+    list.tables.set(&flat(4, 50.0))?;
+    list.name(&[3, 0])?;
+    let (found, refused) = ((16, ROOM), (1, ROOM - 1));
+    for by in [-1, 1] {
+        list.wrong(found, put(3, word(float_step(50.0, by))))?;
+    }
+    for place in [4, 19] {
+        list.wrong(found, off(place))?;
+    }
+    list.wrong(found, put(2, 18))?;
+    list.wrong(found, last(2, 0))?;
+    list.wrong(found, last(2, 18))?;
+    list.wrong(refused, put(2, 18))?;
+    list.wrong(refused, put(2, 0))?;
+    list.wrong(refused, |words| {
+        words[2] = 0;
+        words.extend([word(50.0), 0]);
+    })?;
+    // A chroma and hues that are all zero leave the kind of the answer to tell them.
+    let one = (1, ROOM);
+    list.tables.set(&flat(1, 0.0))?;
+    list.name(&[0])?;
+    list.wrong(one, |words| words.extend([0; 2]))?;
+    list.wrong(one, put(2, 18))?;
+    list.tables.more(719, &[1e-45])?;
+    list.wrong(one, last(2, 0))?;
+    list.wrong(one, last(2, 18))
 }
 
 /// Writes derivations, validations and back-offs of which the number, a channel of the first or

@@ -1,1 +1,2 @@
 pub mod Oriented
+pub mod Chosen

@@ -1,5 +1,5 @@
-// Replays a list of search cases, read from standard input, against the crates `search` and `orientation`, and compares each
-// answer of the one and the job after it, field by field or by a digest, and each answer of the other with its hues. It writes the
+// Replays a list of search cases, read from standard input, against the crates `search`, `orientation` and `level_set`, and compares
+// each answer of the first and the job after it, field by field or by a digest, and each answer of the others with its hues. It writes the
 // numbers of the first lines that differ with their operations, then how many lines of each operation there are, and at last how
 // many cases were compared, how many of them were wrong on purpose and found so, and how many lines differ. A line that a list may
 // not have differs too, and so does a refused call that leaves a work buffer changed.
@@ -7,6 +7,7 @@ mod calls;
 mod jobs;
 mod operations;
 mod orientations;
+mod sets;
 mod table;
 
 use calls::Taken;
@@ -23,6 +24,8 @@ struct State {
     length: usize,
     // the job that the next call is lent
     job: Job,
+    // the words of the line that lists the levels of a set
+    list: [u32; 24],
 }
 
 // How long a work buffer a call is lent; a start and a best with one hue fixed are lent none.
@@ -30,13 +33,13 @@ fn room_of(operation: u64, words: [u32; 24]) -> usize {
     match operation {
         operations::START | operations::ORIENT => 0,
         operations::STEP => size_at(words, 0),
-        operations::STEPS => size_at(words, 1),
+        operations::STEPS | operations::SET => size_at(words, 1),
         _ => size_at(words, 2),
     }
 }
 
 // What comes of a call with this work buffer.
-fn called_in(line: Line, table: &[f32], work: &mut [u16], job: Job) -> Taken {
+fn called_in(line: Line, list: [u32; 24], table: &[f32], work: &mut [u16], job: Job) -> Taken {
     let operation = line.operation;
     let words = line.words;
     let count = line.count;
@@ -46,19 +49,20 @@ fn called_in(line: Line, table: &[f32], work: &mut [u16], job: Job) -> Taken {
         operations::STEP => calls::step(words, count, seed, table, work, job),
         operations::STEPS => calls::steps(words, seed, table, work, job),
         operations::ORIENT => orientations::orient(words, count, table, job),
+        operations::SET => sets::set(words, count, seed, list, table, work, job),
         _ => calls::search(words, count, seed, table, work, job),
     }
 }
 
 // What comes of a call over the first entries.
-fn called(line: Line, entries: &[f32], length: usize, job: Job) -> Taken {
+fn called(line: Line, list: [u32; 24], entries: &[f32], length: usize, job: Job) -> Taken {
     let mut work = [0u16; 2400];
     let words = line.words;
     let room = room_of(line.operation, words);
     if room <= 2400 {
         if length <= entries.len() {
             let part = &mut work[0..room];
-            return called_in(line, &entries[0..length], part, job);
+            return called_in(line, list, &entries[0..length], part, job);
         }
     }
     Taken { same: false, job }
@@ -87,6 +91,16 @@ impl State {
         self
     }
 
+    // With this list of levels, if the words are one.
+    fn with_list(mut self, words: [u32; 24], count: usize) -> State {
+        let run = self.run;
+        if sets::is_list(words, count) {
+            self.list = words;
+            return self;
+        }
+        self.with_run(run.formed(false))
+    }
+
     // With what its line sets.
     fn set(self, entries: &mut [f32; 122400]) -> State {
         let run = self.run;
@@ -99,6 +113,7 @@ impl State {
             operations::DIR => self.with_run(run.with_dir()),
             operations::TABLE => self.with_length(size_at(words, 0)),
             operations::JOB | operations::BEST => self.with_job(jobs::set(line, job)),
+            operations::LEVELS => self.with_list(words, line.count),
             _ => self.with_run(run.formed(table::set(line, entries, all))),
         }
     }
@@ -107,7 +122,8 @@ impl State {
     fn called(self, entries: &[f32]) -> State {
         let run = self.run;
         let job = self.job;
-        let taken = called(run.line(), entries, self.length, job);
+        let list = self.list;
+        let taken = called(run.line(), list, entries, self.length, job);
         let next = taken.job;
         self.with_run(run.agreed(taken.same)).with_job(next)
     }
@@ -151,6 +167,7 @@ fn take_all(entries: &mut [f32; 122400]) -> Run {
         run: Run::new(),
         length: 0,
         job: jobs::blank(),
+        list: [0u32; 24],
     };
     let mut turns = case_lines::TURNS;
     while turns > 0 && !state.is_done() {

@@ -25,6 +25,9 @@ pub const JOB: u64 = 0x6a_6f62;
 // best chroma dark light: the job that the next call is lent has this best
 pub const BEST: u64 = 0x6265_7374;
 
+// levels n l ..: the list of the sets from here on has n level indices, which are these
+pub const LEVELS: u64 = 0x6c65_7665_6c73;
+
 // start k gap number levels: a start: the number of its refusal, or 0 and the levels of the job after it
 pub const START: u64 = 0x73_7461_7274;
 
@@ -42,19 +45,23 @@ const SEARCH: u64 = 0x7365_6172_6368;
 // chroma, the level indices and the partner where something is found
 pub const ORIENT: u64 = 0x6f72_6965_6e74;
 
+// set k room number chroma h ..: the best of the levels listed, with a work buffer of this length: the number of its refusal, or 0
+// with the chroma and k hues where something is found
+pub const SET: u64 = 0x73_6574;
+
 // How many operations there are.
-pub const COUNT: usize = 13;
+pub const COUNT: usize = 15;
 
 // The place of the first operation that sets the job, and of the first that is a case.
 pub const FIRST_JOB: usize = 6;
 
-pub const FIRST_CASE: usize = 8;
+pub const FIRST_CASE: usize = 9;
 
 // The place of a line that a list may not have.
 pub const NOWHERE: usize = 24;
 
 // The operations in the order in which they are reported.
-pub const NAMES: [u64; 13] = [
+pub const NAMES: [u64; 15] = [
     DIR,
     TABLE,
     MORE,
@@ -63,18 +70,20 @@ pub const NAMES: [u64; 13] = [
     PANEL,
     JOB,
     BEST,
+    LEVELS,
     START,
     STEP,
     STEPS,
     SEARCH,
     ORIENT,
+    SET,
 ];
 
 // How many words each of them has at least.
-const FEWEST: [usize; 13] = [3, 1, 2, 3, 3, 2, 4, 3, 3, 2, 4, 4, 3];
+const FEWEST: [usize; 15] = [3, 1, 2, 3, 3, 2, 4, 3, 1, 3, 2, 4, 4, 3, 3];
 
 // How many words each of them has at most.
-const MOST: [usize; 13] = [3, 1, 24, 3, 3, 2, 20, 3, 4, 22, 4, 24, 7];
+const MOST: [usize; 15] = [3, 1, 24, 3, 3, 2, 20, 3, 24, 4, 22, 4, 24, 7, 20];
 
 // The place of an operation among all, or none of their places, NOWHERE, where there is no such operation or it may not have
 // so many words.

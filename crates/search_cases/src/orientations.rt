@@ -15,14 +15,14 @@ ghost use lib.ListN.{getD};
 ghost use Rattle.search_cases.specs.Oriented.{foundSaid, numberSaid, answerSaid, huesSaid, huesOf, orientedSaid};
 
 // Whether both are so.
-fn both(one: bool, other: bool) -> bool
+pub fn both(one: bool, other: bool) -> bool
     ensures { λ r. ⌜ r ≡ (one && other) ⌝ }
 {
     one && other
 }
 
 // Whether a number is the word at a place.
-fn is_at(n: usize, words: [u32; 24], at: usize) -> bool
+pub fn is_at(n: usize, words: [u32; 24], at: usize) -> bool
     ensures { λ r. ⌜ r ≡ eqb n (getD words at 0) ⌝ }
 {
     n == word_at(words, at) as usize
@@ -37,8 +37,8 @@ fn same_found(chroma: f32, dark: usize, light: usize, words: [u32; 24], count: u
     both(number, both(same_at(chroma, words, 3), levels))
 }
 
-// Whether the words say this number and nothing after it.
-fn same_number(number: u8, words: [u32; 24], count: usize) -> bool
+// Whether the words say this number, as the third of them, and nothing after it.
+pub fn same_number(number: u8, words: [u32; 24], count: usize) -> bool
     ensures { λ r. ⌜ r ≡ numberSaid number words count ⌝ }
 {
     both(count == 3, is_at(number as usize, words, 2))
