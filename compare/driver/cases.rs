@@ -2,6 +2,7 @@
 
 use crate::color::{self, Lab, Linear, Srgb8};
 use crate::standins;
+use std::collections::BTreeMap;
 use std::io::{self, Write};
 
 /// The operations a list can hold, besides the lines that set directions.
@@ -101,6 +102,24 @@ pub fn line(out: &mut dyn Write, operation: &str, words: &[u32]) -> io::Result<(
         write!(out, " {word:x}")?;
     }
     writeln!(out)
+}
+
+/// Writes how many answers of each kind there are: found, none, and refused by each number.
+pub fn tally(
+    out: &mut dyn Write,
+    what: &str,
+    found: u64,
+    nothing: u64,
+    refused: &BTreeMap<u32, u64>,
+) -> io::Result<()> {
+    let all: u64 = refused.values().sum();
+    let each = refused.iter();
+    let by: Vec<_> = each.map(|(n, times)| format!("{times} by {n}")).collect();
+    let by = by.join(", ");
+    writeln!(
+        out,
+        "# {what}: {found} found, {nothing} none, {all} refused: {by}."
+    )
 }
 
 /// Writes a case that is wrong on purpose: a line `wrong`, then this case with its words changed.

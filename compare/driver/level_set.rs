@@ -1,7 +1,7 @@
 //! The best over a set of levels: the call with its refusals, and its lines in a list of search
 //! cases.
 
-use crate::cases::{line, word, wrong};
+use crate::cases::{line, tally, word, wrong};
 use crate::job::{whole_rows, BAD_ENTRY, BAD_HUE_COUNT, BAD_TABLE, BAD_WORK, ROOM};
 use crate::lists::step as float_step;
 use crate::pairing;
@@ -214,15 +214,13 @@ impl<'a, 'b> LevelSets<'a, 'b> {
 
     /// Writes how many answers of each kind there are.
     pub fn end(&mut self) -> io::Result<()> {
-        let refused: u64 = self.refused.values().sum();
-        let each = self.refused.iter();
-        let by: Vec<_> = each.map(|(n, times)| format!("{times} by {n}")).collect();
-        writeln!(
+        let (found, nothing) = (self.found, self.nothing);
+        tally(
             self.tables.out(),
-            "# Sets of levels: {} found, {} none, {refused} refused: {}.",
-            self.found,
-            self.nothing,
-            by.join(", ")
+            "Sets of levels",
+            found,
+            nothing,
+            &self.refused,
         )?;
         writeln!(
             self.tables.out(),

@@ -1,7 +1,7 @@
 //! The best with one hue fixed: the call with its refusals, and its lines in a list of search
 //! cases.
 
-use crate::cases::{line, word, wrong};
+use crate::cases::{line, tally, word, wrong};
 use crate::job::{indices, table_refusal, FLOOR};
 use crate::pairing;
 use crate::search::{Searches, FEW_LEVELS};
@@ -170,15 +170,13 @@ impl<'a, 'b> Orientations<'a, 'b> {
 
     /// Writes how many answers of each kind there are.
     pub fn end(&mut self) -> io::Result<()> {
-        let refused: u64 = self.refused.values().sum();
-        let each = self.refused.iter();
-        let by: Vec<_> = each.map(|(n, times)| format!("{times} by {n}")).collect();
-        writeln!(
+        let (found, nothing) = (self.found, self.nothing);
+        tally(
             self.tables.out(),
-            "# One hue fixed: {} found, {} none, {refused} refused: {}.",
-            self.found,
-            self.nothing,
-            by.join(", ")
+            "One hue fixed",
+            found,
+            nothing,
+            &self.refused,
         )?;
         writeln!(
             self.tables.out(),

@@ -174,21 +174,11 @@ pub extern "C" fn tengcuvo_level_set(
     ensures { λ r. ⌜ (r ≡ bestNumber (setSays k (now (table .entry)) (now (levels .entry)) (length (now (work .entry))))) × ((now (hues .exit) ≡ bestHues (setSays k (now (table .entry)) (now (levels .entry)) (length (now (work .entry)))) (now (hues .entry))) × (now (chroma .exit) ≡ bestChroma (setSays k (now (table .entry)) (now (levels .entry)) (length (now (work .entry)))) (now (chroma .entry)))) ⌝ }
     ensures { λ r. ⌜ ((w : ℕ) → setSays k (now (table .entry)) (now (levels .entry)) (length (now (work .entry))) ≡ refused w → now (work .exit) ≡ now (work .entry)) ⌝ }
 {
-    let chosen = level_set::best_for_level_set(table, levels, k, work);
-    let answer = chosen.answer;
-    let given = chosen.hues;
-    match answer {
-        level_set::Answer::Found(reached) => {
-            *hues = given;
-            *chroma = [reached];
-            0
-        }
-        level_set::Answer::Nothing => {
-            *hues = given;
-            NO_CHROMA
-        }
-        level_set::Answer::Refused(why) => why.number() as u32,
-    }
+    handing::hand(
+        level_set::best_for_level_set(table, levels, k, work),
+        hues,
+        chroma,
+    )
 }
 
 // Thirty-two colours as 0xRRGGBB.

@@ -1,12 +1,13 @@
 // What a call on rows and rings hands to a caller in another language: one number, and what is written where it is lent.
 use gamut::Filling;
+use pair::Chosen;
 use placement::Answer;
 ghost use mathlib.Core.Path.{_≡_};
 ghost use Prim.Native.Nat.{ℕ};
 ghost use lib.ListN.{length};
 ghost use Rattle.limits.specs.Answers.{refused};
 ghost use Rattle.placement_rules.specs.Placing.{placementSays};
-ghost use Rattle.pair_rules.specs.Pair.{pairSays};
+ghost use Rattle.pair_rules.specs.Pair.{pairSays, answers};
 ghost use Rattle.gamut.specs.Gamut.{fillSaid, fillSays, rowAfter};
 ghost use Rattle.handing.specs.Numbers.{numberOf, placeNumber, huesAfter, bestNumber, bestHues, bestChroma};
 
@@ -63,6 +64,27 @@ pub fn place(
     }
 }
 
+// What a best hands over: 0 with the chroma and its sixteen hues, 255 with zeros for hues and the chroma as before where there is none,
+// or the number of a refusal, with both as before.
+pub fn hand(chosen: Chosen, hues: &mut [u16; 16], chroma: &mut [f32; 1]) -> u32
+    ensures { λ r. ⌜ (r ≡ bestNumber (answers (chosen .answer) (chosen .hues))) × ((now (hues .exit) ≡ bestHues (answers (chosen .answer) (chosen .hues)) (now (hues .entry))) × (now (chroma .exit) ≡ bestChroma (answers (chosen .answer) (chosen .hues)) (now (chroma .entry)))) ⌝ }
+{
+    let answer = chosen.answer;
+    let given = chosen.hues;
+    match answer {
+        pair::Answer::Found(c) => {
+            *hues = given;
+            *chroma = [c];
+            0
+        }
+        pair::Answer::Nothing => {
+            *hues = [0u16; 16];
+            NO_CHROMA
+        }
+        pair::Answer::Refused(why) => why.number() as u32,
+    }
+}
+
 // The best chroma of two rows from a floor up, for k hues at least `step` apart all round: gives 0 with the chroma and sixteen
 // hues, 255 with zeros for hues and the chroma as before where there is none, or the number of a refusal, with the hues, the
 // chroma and the work buffer as before.
@@ -79,19 +101,9 @@ pub fn best(
     ensures { λ r. ⌜ (r ≡ bestNumber (pairSays k step floor (now (a .entry)) (now (b .entry)) (length (now (work .entry))))) × ((now (hues .exit) ≡ bestHues (pairSays k step floor (now (a .entry)) (now (b .entry)) (length (now (work .entry)))) (now (hues .entry))) × (now (chroma .exit) ≡ bestChroma (pairSays k step floor (now (a .entry)) (now (b .entry)) (length (now (work .entry)))) (now (chroma .entry)))) ⌝ }
     ensures { λ r. ⌜ ((w : ℕ) → pairSays k step floor (now (a .entry)) (now (b .entry)) (length (now (work .entry))) ≡ refused w → now (work .exit) ≡ now (work .entry)) ⌝ }
 {
-    let chosen = pair::best_for_levels(a, b, k, step, floor, work);
-    let answer = chosen.answer;
-    let given = chosen.hues;
-    match answer {
-        pair::Answer::Found(c) => {
-            *hues = given;
-            *chroma = [c];
-            0
-        }
-        pair::Answer::Nothing => {
-            *hues = given;
-            NO_CHROMA
-        }
-        pair::Answer::Refused(why) => why.number() as u32,
-    }
+    hand(
+        pair::best_for_levels(a, b, k, step, floor, work),
+        hues,
+        chroma,
+    )
 }
