@@ -24,7 +24,7 @@ abbrev pub huesAfter : Said Places → List ℕ → List ℕ
 huesAfter (value p) hues = huesBeside (value p)
 huesAfter (refused n) hues = hues
 
--- 0 where a chroma is found, 255 where there is none, else document 01's number of the refusal
+-- 0 where a chroma is found, 255 where there is none, else the number of the refusal
 abbrev pub bestNumber : Said Best → ℕ
 bestNumber (value (found c hues)) = 0
 bestNumber (value none) = 255

@@ -53,6 +53,7 @@ the job is finished
 the job record is broken
 the operand is not in its range
 the line is malformed
+the list of levels is empty or has more than 8
 ",
         number,
     );

@@ -1,4 +1,4 @@
-// Document 01, "What a call can hand back": the refusals with their numbers, and a check for each kind
+// Document 01, "What a call can hand back", with what document 02 adds: the refusals with their numbers, and a check for each kind
 // of value that a caller lends.
 ghost use mathlib.Core.Path.{_≡_};
 ghost use mathlib.Core.Bool.{not};

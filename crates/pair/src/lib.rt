@@ -218,7 +218,8 @@ pub fn largest(row: &[f32]) -> f32
     most
 }
 
-// The best chroma of one row, as of two: from a floor up, for k hues at least `step` apart all round, by 30 halvings.
+// The best chroma of one row, as of two: from a floor up, for k hues at least `step` apart all round, by 30 halvings. The work buffer's
+// content is left free where the call is accepted, and does not matter.
 pub fn best_for_row(row: &[f32], k: usize, step: usize, floor: f32, work: &mut [u16]) -> Chosen
     ensures { λ r. ⌜ (answers (r .answer) (r .hues) ≡ rowsSay k step floor (now (row .entry) ∷ []) (length (now (work .entry)))) × (r .hues ≡ huesBeside (rowsSay k step floor (now (row .entry) ∷ []) (length (now (work .entry))))) ⌝ }
     ensures { λ r. ⌜ ((w : ℕ) → rowsSay k step floor (now (row .entry) ∷ []) (length (now (work .entry))) ≡ refused w → now (work .exit) ≡ now (work .entry)) ⌝ }

@@ -298,7 +298,17 @@ module _ (k step : ℕ) (floor : Float) (rows : List (List Float)) (room : ℕ) 
       let f = found-is k step floor (leastRow rows) c hues (s .is) in
       let r = reached-there k step floor rows (s .given) F (s .taken) (f .reaches) (f .starts) (f .indices) (f .there) in
       let up : (others : List ℕ) → Hues (ringLength rows) k step others → Within (2 ^ 134) (last k step floor (leastRow rows), common rows others) = λ others sp. up-to-near k step floor rows (s .given) F (s .taken) (f .reaches) (f .starts) others sp (up-to-high k step floor rows (s .given) F (s .taken) c hues (s .is) others sp) in
-      subst (λ (x : Float). Near k step rows x hues) (f .chroma) (subst (Near k step rows (last k step floor (leastRow rows))) (f .handed) (record { placed = r .0; reached = r .1; limit = up }))
+      let number : F32 (last k step floor (leastRow rows)) × (chromaTaken (last k step floor (leastRow rows)) ≡ true) = (end-f32 k step floor rows (s .given) F (s .taken) (f .reaches) (f .starts), end-taken k step floor rows (s .given) F (s .taken) (f .reaches) (f .starts)) in
+      subst (λ (x : Float). Near k step rows x hues) (f .chroma) (subst (Near k step rows (last k step floor (leastRow rows))) (f .handed) (record { in-range = number; placed = r .0; reached = r .1; limit = up }))
+
+  -- what that says by fractions: where other hues have a / d in common and c is b / d, a / d is at most 2 ^ -15 above b / d
+  pub near-by-fractions : (c : Float) (hues : List ℕ) → rowsSay k step floor rows room ≡ value (found c hues) → (others : List ℕ) → Hues (ringLength rows) k step others
+      → (a b d : ℕ) → 0 < d → HasValue (common rows others) false a d → HasValue c false b d → a * 2 ^ 15 ≤ b * 2 ^ 15 + d
+  unfolding chromaTaken
+  near-by-fractions c hues h others sp a b d D v w =
+      let s = said (found c hues) h in
+      let near = best-is-near c hues h in
+      by-fractions c (common rows others) (taken-plain c (near .in-range .0) (near .in-range .1) .0) (plain k step floor rows (s .given) others sp) a b d D v w (near .limit others sp)
 
   -- what is handed out, from any floor: a chroma from the floor to 200, and sixteen hues of which the first k are spaced and the others zero
   pub record Handed (c : Float) (hues : List ℕ) : Type 0 where
@@ -322,15 +332,6 @@ module _ (k step : ℕ) (floor : Float) (rows : List (List Float)) (room : ℕ) 
         stored = f .handed;
         spaced = placed-hues k step floor rows (s .given) F (s .taken) (f .reaches) (f .starts) (f .indices) (f .there);
       })
-
-  -- what that says by fractions: where other hues have a / d in common and c is b / d, a / d is at most 2 ^ -15 above b / d
-  pub near-by-fractions : (c : Float) (hues : List ℕ) → rowsSay k step floor rows room ≡ value (found c hues) → (others : List ℕ) → Hues (ringLength rows) k step others
-      → (a b d : ℕ) → 0 < d → HasValue (common rows others) false a d → HasValue c false b d → a * 2 ^ 15 ≤ b * 2 ^ 15 + d
-  unfolding chromaTaken
-  near-by-fractions c hues h others sp a b d D v w =
-      let s = said (found c hues) h in
-      let i = what-is-handed c hues h in
-      by-fractions c (common rows others) (taken-plain c (i .f32-is) (i .in-range) .0) (plain k step floor rows (s .given) others sp) a b d D v w (best-is-near c hues h .limit others sp)
 
   pub none-is-none : rowsSay k step floor rows room ≡ value none → Below k step rows floor
   unfolding halve

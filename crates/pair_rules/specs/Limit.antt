@@ -7,6 +7,7 @@ use mathlib.Core.List.{List}
 use Prim.Native.Nat.{ℕ, _^_}
 use lib.Ieee.{Float, le, lt}
 use lib.ListN.{take}
+use Rattle.limits.specs.Taken.{chromaTaken}
 use Rattle.limits.specs.Each.{Each, F32}
 use Rattle.halving.specs.Patterns.{next}
 use Rattle.halving.specs.Ends.{Within}
@@ -29,8 +30,9 @@ pub record Limit (k step : ℕ) (rows : List (List Float)) (c : Float) (hues : L
   pub limit : (others : List ℕ) → Hues (ringLength rows) k step others → le (common rows others) (next c) ≡ true
 
 -- c, with the first k of the hues handed out, is near the limit of the rows: "Of all placements, none has a common chroma more than 2^-15 above the answer." 2 ^ -15 is 2 ^ 134
--- units of 2 ^ -149, and the difference is the exact one
+-- units of 2 ^ -149, and the difference is the exact one; c is an f32 from plus 0 to 200, so that its units are its value
 pub record Near (k step : ℕ) (rows : List (List Float)) (c : Float) (hues : List ℕ) : Type 0 where
+  pub in-range : F32 c × (chromaTaken c ≡ true)
   pub placed : Each (λ row. Spaced (allowedAt row c) (ringLength rows) k step (take k hues)) rows
   pub reached : le c (common rows (take k hues)) ≡ true
   pub limit : (others : List ℕ) → Hues (ringLength rows) k step others → Within (2 ^ 134) (c, common rows others)

@@ -1,5 +1,5 @@
--- What the words of a line `orient gap hue number chroma dark light partner` say of the answer with one hue fixed, and of its hues.
--- Definitions only.
+-- What the words of a line `orient gap hue number chroma dark light partner` say of the answer with one hue fixed, and of its hues. A line
+-- `set` has its number in the same place. Definitions only.
 use Prim.Native.Nat.{ℕ}
 use mathlib.Core.Bool.{Bool, _&&_, cond}
 use mathlib.Core.List.{List, _∷_}
@@ -17,7 +17,7 @@ abbrev pub foundSaid : Float → ℕ → ℕ → List ℕ → ℕ → Bool
 foundSaid c d l words count =
     (eqb count 7 && eqb 0 (getD words 2 0)) && (sameFloat c (getD words 3 0) && (eqb d (getD words 4 0) && eqb l (getD words 5 0)))
 
--- this number, and nothing after it
+-- this number as the third word, and nothing after it
 abbrev pub numberSaid : ℕ → List ℕ → ℕ → Bool
 numberSaid n words count = eqb count 3 && eqb n (getD words 2 0)
 

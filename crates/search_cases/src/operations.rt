@@ -52,9 +52,7 @@ pub const SET: u64 = 0x73_6574;
 // How many operations there are.
 pub const COUNT: usize = 15;
 
-// The place of the first operation that sets the job, and of the first that is a case.
-pub const FIRST_JOB: usize = 6;
-
+// The place of the first operation that is a case.
 pub const FIRST_CASE: usize = 9;
 
 // The place of a line that a list may not have.
