@@ -1,10 +1,9 @@
 -- What `Within` says by exact fractions: where x is b / d and y is a / d, and y is at most 2 ^ 134 units of 2 ^ -149 above x, a / d is at most 2 ^ -15 above b / d
 -- (`by-fractions`). Assumes nothing.
-use mathlib.Core.Path.{_≡_, sym, ap, _∙_, subst}
+use mathlib.Core.Path.{_≡_, sym, ap, _∙_}
 use mathlib.Core.Bool.{true, false}
 use Prim.Native.Nat.{ℕ, _+_, _*_, _^_, _≤_, _<_}
 use native.Mathlib.Nat.{le-refl, le-antisymm, le-trans, le-of-eq, mul-assoc, add-mul, mul-comm, mul-le-mul-right, le-of-mul-le-mul-right}
-use native.Mathlib.Omega.{arith}
 use lib.Pow.{pow-pos, pow-add}
 use lib.Ieee.{Float, binary32, toBits, le}
 use lib.Ieee.Exact.{HasValue}

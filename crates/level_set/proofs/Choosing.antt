@@ -1,14 +1,14 @@
 -- What is said of a call, by its step and its checks (`declined`, `refusing`, `passing`), and of one that is taken by the row of least values: the best of that one row from a floor of 0
 -- where its largest is above 0, and none else (`something`, `nothing`). Assumes nothing.
-use mathlib.Core.Path.{_≡_, refl, sym, ap, _∙_, subst}
-use mathlib.Core.Bool.{Bool, true, false, _&&_, cond, and-true}
+use mathlib.Core.Path.{_≡_, refl, sym, ap, _∙_}
+use mathlib.Core.Bool.{Bool, true, false, cond}
 use mathlib.Core.List.{List, [], _∷_}
 use Prim.Native.Nat.{ℕ}
 use lib.Ieee.{Float, lt}
 use lib.ListN.{length}
-use Rattle.limits.specs.Answers.{Said, value, refused, pass}
+use Rattle.limits.specs.Answers.{value, refused, pass}
 use Rattle.limits.specs.Refusals.{number, checkSaid}
-use Rattle.limits.specs.Taken.{f32Of, hueCountTaken, entryTaken, every}
+use Rattle.limits.specs.Taken.{f32Of, hueCountTaken}
 use Rattle.limits.specs.declared.Refusal.{Refusal}
 use Rattle.limits.specs.declared.Checked.{Checked}
 use Rattle.limits.specs.declared.Checked.the-variants.{Fine, Wrong}

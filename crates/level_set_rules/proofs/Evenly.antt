@@ -1,14 +1,13 @@
 -- For every hue count that is taken some hues are spaced at least the step for it: 0, step, 2 * step and so on, since k steps go round no further than 720 (`some-hues`). Assumes nothing.
 use mathlib.Core.Path.{_≡_, refl, sym, ap, _∙_}
 use mathlib.Core.Logic.{inl, inr}
-use mathlib.Core.Bool.{true}
 use mathlib.Core.List.{List, [], _∷_}
 use Prim.Native.Nat.{ℕ, zero, suc, _+_, _-_, _*_, _/_, _≤_, _<_}
-use native.Mathlib.Nat.{zero-add, add-zero, add-suc, suc-add, le-of-suc-le-suc, not-suc-le-zero, le-trans, mul-add, mul-one, suc-mul, mul-div-le, mul-le-mul-right}
+use native.Mathlib.Nat.{zero-add, add-zero, add-suc, suc-add, le-of-suc-le-suc, not-suc-le-zero, mul-add, mul-one, suc-mul, mul-div-le, mul-le-mul-right}
 use native.Mathlib.Omega.{arith}
 use lib.ListN.{length, getD}
 use Rattle.placement_rules.specs.Placing.{stepFor}
-use Rattle.placement_rules.specs.Spacing.{Apart, Spaced}
+use Rattle.placement_rules.specs.Spacing.{Apart}
 use Rattle.placement_rules.proofs.Earliest.{below-or-not}
 use Rattle.pair_rules.specs.Limit.{Hues}
 

@@ -1,19 +1,18 @@
 -- The rows of the levels that an accepted call names are rows that the best over some rows takes, from a floor of 0 and with the step for k (`rows-say`, over any number of rows
 -- of 720); and their values. Assumes nothing.
-use mathlib.Core.Path.{_≡_, refl, sym, ap, _∙_, subst}
-use mathlib.Core.Bool.{Bool, true, false, _&&_, cond}
+use mathlib.Core.Path.{_≡_, refl, subst}
+use mathlib.Core.Bool.{true, _&&_}
 use mathlib.Core.List.{List, [], _∷_}
-use Prim.Native.Nat.{ℕ, _+_, _*_, _≤_, _<_}
+use Prim.Native.Nat.{ℕ, _*_, _≤_, _<_}
 use native.Mathlib.Nat.{not-suc-le-zero, le-trans, mul-le-mul-right, one-mul}
-use native.Mathlib.Omega.{arith}
 use lib.Dec.{leb}
 use lib.IntN.{pos}
-use lib.Ieee.{Float, binary32, isNan, ofInt, lt, le}
+use lib.Ieee.{Float, binary32, isNan, ofInt, lt}
 use lib.Ieee.Fits.{ofInt-fits}
 use lib.ListN.{length}
 use borrow.Author.Tests.{le-leb, eq-eqb}
 use Rattle.limits.specs.Answers.{value}
-use Rattle.limits.specs.Taken.{f32Of, hueCountTaken, chromaTaken, upTo, signClear, signBit}
+use Rattle.limits.specs.Taken.{f32Of, chromaTaken, upTo, signClear, signBit}
 use Rattle.limits.specs.Each.{Each, F32}
 use Rattle.limits.proofs.Checks.{said}
 use Rattle.gamut.specs.Table.{levelsIn, rowAt}

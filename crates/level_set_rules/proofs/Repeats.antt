@@ -5,25 +5,23 @@ use mathlib.Core.Logic.{inl, inr}
 use mathlib.Core.Bool.{Bool, true, false, cond}
 use mathlib.Core.List.{List, [], _∷_, map}
 use Prim.Native.Nat.{ℕ, _*_, _≤_, _<_}
-use native.Mathlib.Omega.{arith}
 use lib.Dec.{leb}
 use lib.Ieee.{Float, nan, le}
 use lib.ListN.{length, getD}
 use Rattle.limits.specs.Answers.{Said, value, refused}
 use Rattle.limits.specs.Taken.{hueCountTaken, entryTaken}
 use Rattle.limits.specs.Each.{Each, F32}
-use Rattle.limits.proofs.Floats.{never}
 use Rattle.halving.proofs.Plain.{Plain, le-both}
 use Rattle.gamut.specs.Table.{levelsIn, rowAt, tableTaken}
 use Rattle.gamut.proofs.Table.{levelled}
 use Rattle.placement_rules.specs.Placing.{workNeeded}
 use Rattle.pair_rules.specs.Rows.{valueAt, ringLength, leastRow}
-use Rattle.pair_rules.specs.Pair.{Best, lengthsTaken, entriesTaken}
+use Rattle.pair_rules.specs.Pair.{Best, entriesTaken}
 use Rattle.pair_rules.proofs.Rows.{least-long, least-at, least-is}
 use Rattle.pair_rules.proofs.Choices.{column-plain, value-plain, of-least, to-least, le-self}
 use Rattle.level_set_rules.specs.Set.{rowsAt, setOver, listTaken, indicesTaken, namedChecked, setChecked, setSays}
 use Rattle.level_set_rules.specs.Meant.{In, Among, SameLevels, Listed}
-use Rattle.level_set_rules.proofs.Accepted.{list-taken, indices-in, indices-taken, RowsTaken, rows-in, rows-taken}
+use Rattle.level_set_rules.proofs.Accepted.{list-taken, indices-in, indices-taken, rows-in, rows-taken}
 use Rattle.level_set_rules.proofs.Named.{first-row, rows-lengths, rows-f32}
 
 -- ---- what holds of each element of a list holds of each that stands in it

@@ -7,20 +7,19 @@ use mathlib.Core.Bool.{Bool, true, false, cond}
 use mathlib.Core.List.{List, [], _∷_}
 use Prim.Native.Nat.{ℕ, suc, _+_, _*_, _^_, _≤_, _<_}
 use native.Mathlib.Omega.{arith}
-use lib.Dec.{ltb}
 use lib.Ieee.{Float, nan, binary32, toBits, ofInt, lt, le}
 use lib.Ieee.Exact.{HasValue}
 use lib.ListN.{length, getD}
-use borrow.Author.Tests.{leb-true, ltb-true, lt-ltb, le-ltb}
+use borrow.Author.Tests.{leb-true, ltb-true, lt-ltb}
 use Rattle.limits.specs.Answers.{value}
 use Rattle.limits.specs.Taken.{f32Of}
 use Rattle.limits.specs.Each.{Each, F32}
 use Rattle.limits.proofs.Floats.{never}
-use Rattle.halving.proofs.Plain.{Plain, le-plain, lt-plain, taken-plain}
+use Rattle.halving.proofs.Plain.{Plain, le-plain, lt-plain}
 use Rattle.gamut.specs.Table.{rowAt}
 use Rattle.placement_rules.specs.Placing.{stepFor}
 use Rattle.pair_rules.specs.Rows.{greater, valueAt, ringLength, leastRow, largestFrom, largest, common}
-use Rattle.pair_rules.specs.Pair.{Best, none, found, bestOver, pairSays}
+use Rattle.pair_rules.specs.Pair.{none, found, bestOver, pairSays}
 use Rattle.pair_rules.specs.Limit.{Hues, Near}
 use Rattle.pair_rules.proofs.Rows.{least-long, least-at}
 use Rattle.pair_rules.proofs.Choices.{value-plain, most-plain, value-most, common-plain, zero-plain}
@@ -147,10 +146,7 @@ module _ (k : ℕ) (t : List Float) (levels : List ℕ) (room : ℕ) (f32 : Each
     accepted : SetTaken k t levels room
     accepted = set-only k t levels room (found c hues) says .0
 
-    abbrev Said : Type 0
-    Said = bestOver k (stepFor k) (f32Of 0) row ≡ found c hues
-
-    best : Said
+    best : bestOver k (stepFor k) (f32Of 0) row ≡ found c hues
     best = over-found k row c hues (set-only k t levels room (found c hues) says .1)
 
     pub set-is-near : (ringLength rows ≡ 720) × Near k (stepFor k) rows c hues

@@ -1,5 +1,5 @@
 -- `level_set::best` meets its contract: the row is that of least values, and what is said goes by whether its largest is above 0. Assumes nothing.
-use mathlib.Core.Path.{_≡_, refl, ap, _∙_}
+use mathlib.Core.Path.{refl, ap, _∙_}
 use lib.Ieee.{ofBits, ofInt, nanBits}
 use lib.ListN.{length}
 use borrow.Author.Needs.{needs}

@@ -1,5 +1,5 @@
 -- `level_set::best_for_level_set` meets its contract: the step and the check say what is refused, and `best` the rest. Assumes nothing.
-use mathlib.Core.Path.{_≡_, refl, sym, ap, _∙_, subst}
+use mathlib.Core.Path.{refl, sym, subst}
 use lib.ListN.{length}
 use borrow.Author.Needs.{needs}
 use Rattle.limits.proofs.Checks.{said-twice}

@@ -1,16 +1,15 @@
 -- `level_set::lower_all` meets its contract. The invariant: at each hue stands the value of the levels from place `left` on. Assumes nothing.
-use mathlib.Core.Path.{_≡_, refl, sym, ap, _∙_, subst}
+use mathlib.Core.Path.{_≡_, sym, ap, _∙_, subst}
 use mathlib.Core.Bool.{false}
-use mathlib.Core.List.{List, []}
+use mathlib.Core.List.{List}
 use Prim.Native.Nat.{ℕ, _+_, _-_, _*_, _≤_, _<_}
 use native.Mathlib.Nat.{le-refl}
 use native.Mathlib.Omega.{arith}
 use lib.Ieee.{Float, nan, inf}
 use lib.ListN.{length, getD, drop, drop-of-length-le, getD-replicate}
-use borrow.Author.Needs.{needs}
 use Rattle.gamut.specs.Table.{levelsIn, rowAt}
 use Rattle.gamut.proofs.Table.{row-long, part, part-row}
-use Rattle.pair_rules.specs.Rows.{lesser, least, valueAt, leastRow}
+use Rattle.pair_rules.specs.Rows.{lesser, least, valueAt}
 use Rattle.pair_rules.proofs.Rows.{least-is}
 use Rattle.pair_rules.proofs.Choices.{each-at}
 use Rattle.level_set_rules.specs.Set.{rowsAt}

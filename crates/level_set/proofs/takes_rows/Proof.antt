@@ -1,16 +1,12 @@
 -- `level_set::takes_rows` meets its contract: the loop keeps what is left of the rows named, and stops at the first with an entry that is not taken. Assumes nothing.
 use mathlib.Core.Path.{_≡_, refl, sym, ap, _∙_}
 use mathlib.Core.Bool.{Bool, true, false, _&&_}
-use mathlib.Core.List.{List}
-use Prim.Native.Nat.{ℕ, _+_, _-_, _*_, _≤_, _<_}
-use native.Mathlib.Nat.{mul-le-mul-right, suc-mul}
+use Prim.Native.Nat.{_+_, _-_, _*_, _≤_}
 use native.Mathlib.Omega.{arith}
-use lib.Ieee.{Float}
 use lib.ListN.{length, getD, drop}
 use borrow.Author.Needs.{needs}
 use borrow.Author.Tests.{not-true, not-false}
 use Rattle.limits.specs.Taken.{entryTaken, every}
-use Rattle.gamut.specs.Table.{rowAt}
 use Rattle.gamut.proofs.Table.{part-row}
 use Rattle.pair_rules.specs.Pair.{entriesTaken}
 use Rattle.level_set_rules.specs.Set.{rowsAt}

@@ -1,7 +1,7 @@
 -- `pair::largest` meets its contract. The invariant: the largest of the values from i on and the largest so far is the largest of all. Assumes nothing.
 use mathlib.Core.Path.{_≡_, refl, ap, _∙_}
 use mathlib.Core.Logic.{⊎-elim}
-use Prim.Native.Nat.{ℕ, _+_, _-_, _≤_}
+use Prim.Native.Nat.{_+_, _-_, _≤_}
 use native.Mathlib.Omega.{arith}
 use lib.Ieee.{Float, nan, ofBits, ofInt}
 use lib.ListN.{length, getD, drop}
