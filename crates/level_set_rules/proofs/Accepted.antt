@@ -3,7 +3,7 @@ use mathlib.Core.Path.{_≡_, refl}
 use mathlib.Core.Logic.{_↔_}
 use mathlib.Core.Bool.{true}
 use mathlib.Core.List.{List, [], _∷_}
-use Prim.Native.Nat.{ℕ, _≤_, _<_}
+use Prim.Native.Nat.{ℕ, _<_}
 use lib.Dec.{leb, ltb}
 use lib.Ieee.{Float}
 use lib.ListN.{length}
@@ -12,7 +12,7 @@ use Rattle.limits.specs.Answers.{Said, value}
 use Rattle.limits.specs.Taken.{hueCountTaken, entryTaken, every}
 use Rattle.limits.specs.Each.{Each}
 use Rattle.limits.proofs.Checks.{Check, check, AllPass, all-pass, said}
-use Rattle.limits.proofs.HueCount.{both, hue-count}
+use Rattle.limits.proofs.HueCount.{both, hue-count, count-taken}
 use Rattle.limits.proofs.Lists.{each-true, every-true}
 use Rattle.gamut.specs.Table.{levelsIn, tableTaken}
 use Rattle.gamut.proofs.Table.{levelled, table-taken}
@@ -23,10 +23,6 @@ use Rattle.level_set_rules.specs.Set.{rowsAt, setOver, listTaken, indice
 use Rattle.level_set_rules.specs.Meant.{Listed, SetTaken}
 
 -- ---- tests of each element, in so many words
-pub hue-count-taken : (k : ℕ) → (1 ≤ k) × (k ≤ 16) → hueCountTaken k ≡ true
-unfolding hueCountTaken
-hue-count-taken k h = rw (le-leb 1 k (h .0), le-leb k 16 (h .1))
-
 listed : (levels : List ℕ) → listTaken levels ≡ true → Listed levels
 unfolding listTaken
 listed levels h = let t = both (leb 1 (length levels)) (leb (length levels) 8) h in (leb-true 1 (length levels) (t .0), leb-true (length levels) 8 (t .1))
@@ -96,7 +92,7 @@ module _ (k : ℕ) (t : List Float) (levels : List ℕ) (room : ℕ) where
   unfolding setSays setChecked namedChecked
   set-given h =
       said set-checks (value over) (
-        hue-count-taken k (h .hue-count),
+        count-taken k (h .hue-count),
         (
           table-taken t (record { long = h .whole-levels; some-level = h .levels-in .0; few-levels = h .levels-in .1 }),
           (le-leb (workNeeded 720) room (h .room-enough), (list-taken levels (h .listed), (indices-taken (levelsIn t) levels (h .within), (rows-taken (rowsAt t levels) (h .entries), tt)))),

@@ -1,29 +1,21 @@
 -- For every hue count that is taken some hues are spaced at least the step for it: 0, step, 2 * step and so on, since k steps go round no further than 720 (`some-hues`). Assumes nothing.
 use mathlib.Core.Path.{_≡_, refl, sym, ap, _∙_}
 use mathlib.Core.Logic.{inl, inr}
+use mathlib.Core.Bool.{true}
 use mathlib.Core.List.{List, [], _∷_}
-use Prim.Native.Nat.{ℕ, zero, suc, _+_, _-_, _*_, _/_, _≤_, _<_}
-use native.Mathlib.Nat.{zero-add, add-zero, add-suc, suc-add, le-of-suc-le-suc, not-suc-le-zero, mul-add, mul-one, suc-mul, mul-div-le, mul-le-mul-right}
+use Prim.Native.Nat.{ℕ, zero, suc, _+_, _*_, _≤_, _<_}
+use native.Mathlib.Nat.{zero-add, add-zero, add-suc, suc-add, le-of-suc-le-suc, not-suc-le-zero, suc-mul, mul-le-mul-right}
 use native.Mathlib.Omega.{arith}
+use lib.Dec.{leb}
 use lib.ListN.{length, getD}
+use borrow.Author.Tests.{leb-true}
+use Rattle.limits.specs.Taken.{hueCountTaken}
+use Rattle.limits.proofs.HueCount.{both}
 use Rattle.placement_rules.specs.Placing.{stepFor}
 use Rattle.placement_rules.specs.Spacing.{Apart}
 use Rattle.placement_rules.proofs.Earliest.{below-or-not}
+use Rattle.placement_rules.proofs.Step.{step-taken, steps-fit}
 use Rattle.pair_rules.specs.Limit.{Hues}
-
--- ---- the step for k
-module _ (k : ℕ) (some : 1 ≤ k) (few : k ≤ 16) where
-  pub steps-fit : k * stepFor k ≤ 720
-  unfolding stepFor
-  steps-fit =
-      let n = (600 + (k - 1)) / k in
-      let whole : k * n ≤ 600 + (k - 1) = mul-div-le (600 + (k - 1)) k in
-      let e : k * (n + 1) ≡ k * n + k = mul-add k n 1 ∙ ap (λ (z : ℕ). k * n + z) (mul-one k) in
-      omega arith
-
-  pub some-step : 1 ≤ stepFor k
-  unfolding stepFor
-  some-step = omega arith
 
 -- ---- m indices a step apart, from i steps on
 unfoldable pub evenly : ℕ → ℕ → ℕ → List ℕ
@@ -77,5 +69,8 @@ module _ (n k step : ℕ) (some : 1 ≤ step) (fit : k * step ≤ n) where
           other : q ≤ p → q < p
           other h = elim (below-or-not q p) [ inl z ↦ z | inr z ↦ absurd (ne (omega arith)) ]
 
-pub some-hues : (k : ℕ) → 1 ≤ k → k ≤ 16 → Hues 720 k (stepFor k) (evenly (stepFor k) k 0)
-some-hues k some few = evenly-spaced 720 k (stepFor k) (some-step k some few) (steps-fit k some few)
+pub some-hues : (k : ℕ) → hueCountTaken k ≡ true → Hues 720 k (stepFor k) (evenly (stepFor k) k 0)
+some-hues k h =
+    let step = stepFor k in
+    let some : 1 ≤ step = leb-true 1 step (both (leb 1 step) (leb step 720) (step-taken k h) .0) in
+    evenly-spaced 720 k step some (steps-fit k h)

@@ -1,10 +1,10 @@
 -- The rows of the levels that an accepted call names are rows that the best over some rows takes, from a floor of 0 and with the step for k (`rows-say`, over any number of rows
 -- of 720); and their values. Assumes nothing.
-use mathlib.Core.Path.{_≡_, refl, subst}
+use mathlib.Core.Path.{_≡_, refl}
 use mathlib.Core.Bool.{true, _&&_}
 use mathlib.Core.List.{List, [], _∷_}
 use Prim.Native.Nat.{ℕ, _*_, _≤_, _<_}
-use native.Mathlib.Nat.{not-suc-le-zero, le-trans, mul-le-mul-right, one-mul}
+use native.Mathlib.Nat.{not-suc-le-zero}
 use lib.Dec.{leb}
 use lib.IntN.{pos}
 use lib.Ieee.{Float, binary32, isNan, ofInt, lt}
@@ -15,17 +15,18 @@ use Rattle.limits.specs.Answers.{value}
 use Rattle.limits.specs.Taken.{f32Of, chromaTaken, upTo, signClear, signBit}
 use Rattle.limits.specs.Each.{Each, F32}
 use Rattle.limits.proofs.Checks.{said}
+use Rattle.limits.proofs.HueCount.{count-taken}
 use Rattle.gamut.specs.Table.{levelsIn, rowAt}
 use Rattle.gamut.proofs.Table.{row-long, row-f32}
 use Rattle.placement_rules.specs.Placing.{stepFor, workNeeded}
 use Rattle.placement_rules.proofs.Checking.{checks}
+use Rattle.placement_rules.proofs.Step.{step-taken}
 use Rattle.pair_rules.specs.Rows.{ringLength, leastRow}
 use Rattle.pair_rules.specs.Pair.{bestOver, alike, lengthsTaken, entriesTaken, rowsChecked, rowsSay}
 use Rattle.pair_rules.specs.Limit.{RowsF32}
 use Rattle.level_set_rules.specs.Set.{rowsAt}
 use Rattle.level_set_rules.specs.Meant.{SetTaken}
-use Rattle.level_set_rules.proofs.Evenly.{steps-fit, some-step}
-use Rattle.level_set_rules.proofs.Accepted.{hue-count-taken, rows-taken}
+use Rattle.level_set_rules.proofs.Accepted.{rows-taken}
 
 -- ---- the floor
 pub zero-f32 : F32 (f32Of 0)
@@ -36,20 +37,15 @@ unfolding chromaTaken upTo signClear signBit isNan ofInt lt
 zero-taken = refl
 
 -- ---- any rows of 720
-step-within : (k : ℕ) → (1 ≤ k) × (k ≤ 16) → stepFor k ≤ 720
-step-within k h =
-    let once : 1 * stepFor k ≤ k * stepFor k = mul-le-mul-right (stepFor k) (h .0) in
-    subst (λ (n : ℕ). n ≤ 720) (one-mul (stepFor k)) (le-trans once (steps-fit k (h .0) (h .1)))
-
 pub rows-say : (k : ℕ) (rows : List (List Float)) (room : ℕ) → (1 ≤ k) × (k ≤ 16) → ringLength rows ≡ 720 → lengthsTaken rows ≡ true → entriesTaken rows ≡ true → workNeeded 720 ≤ room
     → rowsSay k (stepFor k) (f32Of 0) rows room ≡ value (bestOver k (stepFor k) (f32Of 0) (leastRow rows))
 unfolding rowsSay rowsChecked
 rows-say k rows room hues ring lengths entries enough =
     said (checks k (stepFor k) (f32Of 0) (ringLength rows) (lengthsTaken rows) (entriesTaken rows) room) (value (bestOver k (stepFor k) (f32Of 0) (leastRow rows)))
-    (hue-count-taken k hues, (zero-taken, (lengths, (spacing, (entries, (work, tt))))))
+    (count-taken k hues, (zero-taken, (lengths, (spacing, (entries, (work, tt))))))
   where
     spacing : (leb 1 (stepFor k) && leb (stepFor k) (ringLength rows)) ≡ true
-    spacing = rw (ring, le-leb 1 (stepFor k) (some-step k (hues .0) (hues .1)), le-leb (stepFor k) 720 (step-within k hues))
+    spacing = rw ring (step-taken k (count-taken k hues))
 
     work : leb (workNeeded (ringLength rows)) room ≡ true
     work = rw ring (le-leb (workNeeded 720) room enough)

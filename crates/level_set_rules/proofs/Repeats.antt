@@ -18,7 +18,7 @@ use Rattle.placement_rules.specs.Placing.{workNeeded}
 use Rattle.pair_rules.specs.Rows.{valueAt, ringLength, leastRow}
 use Rattle.pair_rules.specs.Pair.{Best, entriesTaken}
 use Rattle.pair_rules.proofs.Rows.{least-long, least-at, least-is}
-use Rattle.pair_rules.proofs.Choices.{column-plain, value-plain, of-least, to-least, le-self}
+use Rattle.pair_rules.proofs.Choices.{each-map, each-back, column-plain, value-plain, of-least, to-least, le-self}
 use Rattle.level_set_rules.specs.Set.{rowsAt, setOver, listTaken, indicesTaken, namedChecked, setChecked, setSays}
 use Rattle.level_set_rules.specs.Meant.{In, Among, SameLevels, Listed}
 use Rattle.level_set_rules.proofs.Accepted.{list-taken, indices-in, indices-taken, rows-in, rows-taken}
@@ -36,26 +36,9 @@ of-each P (m ∷ levels) h = (h m (inl refl), of-each P levels (λ (l : ℕ) (i 
 each-among : (P : ℕ → Type 0) (levels others : List ℕ) → Among others levels → Each P levels → Each P others
 each-among P levels others a h = of-each P others (λ (l : ℕ) (i : In l others). each-of P levels h l (a l i))
 
--- of each row named, by the levels
-rows-of : (Q : List Float → Type 0) (t : List Float) (levels : List ℕ) → Each Q (rowsAt t levels) → Each (λ l. Q (rowAt t l)) levels
-rows-of Q t [] h = tt
-rows-of Q t (l ∷ levels) h = (h .0, rows-of Q t levels (h .1))
-
-of-rows : (Q : List Float → Type 0) (t : List Float) (levels : List ℕ) → Each (λ l. Q (rowAt t l)) levels → Each Q (rowsAt t levels)
-of-rows Q t [] h = tt
-of-rows Q t (l ∷ levels) h = (h .0, of-rows Q t levels (h .1))
-
--- of each entry at a hue
-entries-of : (R : Float → Type 0) (i : ℕ) (rows : List (List Float)) → Each R (map (λ row. getD row i nan) rows) → Each (λ row. R (getD row i nan)) rows
-entries-of R i [] h = tt
-entries-of R i (row ∷ rows) h = (h .0, entries-of R i rows (h .1))
-
-of-entries : (R : Float → Type 0) (i : ℕ) (rows : List (List Float)) → Each (λ row. R (getD row i nan)) rows → Each R (map (λ row. getD row i nan) rows)
-of-entries R i [] h = tt
-of-entries R i (row ∷ rows) h = (h .0, of-entries R i rows (h .1))
-
+-- of each row named
 rows-among : (Q : List Float → Type 0) (t : List Float) (levels others : List ℕ) → Among others levels → Each Q (rowsAt t levels) → Each Q (rowsAt t others)
-rows-among Q t levels others a h = of-rows Q t others (each-among (λ l. Q (rowAt t l)) levels others a (rows-of Q t levels h))
+rows-among Q t levels others a h = each-map Q (rowAt t) others (each-among (λ l. Q (rowAt t l)) levels others a (each-back Q (rowAt t) levels h))
 
 -- ---- tests
 same-test : (x y : Bool) → (x ≡ true → y ≡ true) → (y ≡ true → x ≡ true) → x ≡ y
@@ -104,7 +87,7 @@ module _ (t : List Float) (long : length t ≡ levelsIn t * 720) (f32 : Each F32
       let c = valueAt (rowsAt t levels) i in
       let own = of-least c (map (λ row. getD row i nan) (rowsAt t levels)) (plain levels f i h) (column levels f i h) (le-self c (plain levels f i h)) in
       to-least c (map (λ row. getD row i nan) (rowsAt t others)) (plain levels f i h) (column others g i h)
-      (of-entries (λ x. le c x ≡ true) i (rowsAt t others) (rows-among (λ row. le c (getD row i nan) ≡ true) t levels others a (entries-of (λ x. le c x ≡ true) i (rowsAt t levels) own)))
+      (each-map (λ x. le c x ≡ true) (λ row. getD row i nan) (rowsAt t others) (rows-among (λ row. le c (getD row i nan) ≡ true) t levels others a (each-back (λ x. le c x ≡ true) (λ row. getD row i nan) (rowsAt t levels) own)))
 
   same-row : (levels others : List ℕ) → Fine levels → Fine others → SameLevels levels others → leastRow (rowsAt t levels) ≡ leastRow (rowsAt t others)
   same-row levels others f g s =

@@ -15,6 +15,7 @@ use Rattle.limits.specs.Answers.{value}
 use Rattle.limits.specs.Taken.{f32Of}
 use Rattle.limits.specs.Each.{Each, F32}
 use Rattle.limits.proofs.Floats.{never}
+use Rattle.limits.proofs.HueCount.{count-taken}
 use Rattle.halving.proofs.Plain.{Plain, le-plain, lt-plain}
 use Rattle.gamut.specs.Table.{rowAt}
 use Rattle.placement_rules.specs.Placing.{stepFor}
@@ -117,7 +118,7 @@ module _ (k : ℕ) (t : List Float) (levels : List ℕ) (room : ℕ) (f32 : Each
     never-none : bestOver k (stepFor k) (f32Of 0) row ≡ none → ⊥
     never-none h =
         let below = none-is-none k (stepFor k) (f32Of 0) rows room zero-f32 (rows-f32 t levels f32) (as-rows k t levels room taken ∙ ap value h) in
-        let some = subst (λ (n : ℕ). Hues n k (stepFor k) (evenly (stepFor k) k 0)) (sym (ring k t levels room taken)) (some-hues k (taken .hue-count .0) (taken .hue-count .1)) in
+        let some = subst (λ (n : ℕ). Hues n k (stepFor k) (evenly (stepFor k) k 0)) (sym (ring k t levels room taken)) (some-hues k (count-taken k (taken .hue-count))) in
         not-below (common rows (evenly (stepFor k) k 0))
         (common-plain rows (lengths k t levels room taken) (entries k t levels room taken) (rows-f32 t levels f32) k (stepFor k) (evenly (stepFor k) k 0) (taken .hue-count .0) some)
         (below (evenly (stepFor k) k 0) some)

@@ -5,3 +5,4 @@ pub mod Laws
 pub mod Allowed
 pub mod Checking
 pub mod Stored
+pub mod Step

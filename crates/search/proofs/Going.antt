@@ -11,6 +11,7 @@ use Rattle.limits.specs.declared.Refusal.{Refusal}
 use Rattle.gamut.specs.Table.{rowAt}
 use Rattle.gamut.proofs.Table.{row-long, part, part-row}
 use Rattle.placement_rules.specs.Placing.{stepFor}
+use Rattle.placement_rules.proofs.Step.{step-taken}
 use Rattle.pair_rules.specs.declared.Answer.{Answer}
 use Rattle.pair_rules.specs.declared.Answer.the-variants.{Found, Nothing, Refused}
 use Rattle.pair_rules.specs.Rows.{leastRow}
@@ -20,7 +21,7 @@ use Rattle.search_rules.specs.Job.{floorOf, qualifies, beats, movedOn, replaced
 use Rattle.search.specs.Inner.{pairGiven, Stepped}
 use Rattle.search_rules.proofs.Unbroken.{sound}
 use Rattle.search_rules.proofs.Floor.{floor-taken}
-use Rattle.search_rules.proofs.Rows.{step-taken, rows-left}
+use Rattle.search_rules.proofs.Rows.{rows-left}
 
 -- ---- what `pair` says of the two rows
 pub pair-says :

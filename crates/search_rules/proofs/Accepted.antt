@@ -13,7 +13,7 @@ use borrow.Author.Tests.{leb-true, le-leb}
 use Rattle.limits.specs.Answers.{Said, value, refused}
 use Rattle.limits.specs.Taken.{entryTaken, every}
 use Rattle.limits.specs.Each.{Each, F32}
-use Rattle.limits.proofs.HueCount.{both, hue-count}
+use Rattle.limits.proofs.HueCount.{both, hue-count, count-taken}
 use Rattle.limits.proofs.Checks.{check, AllPass, all-pass, said}
 use Rattle.limits.proofs.Lists.{each-true, every-true}
 use Rattle.gamut.specs.Table.{levelsIn, rowAt}
@@ -26,7 +26,7 @@ use Rattle.search_rules.specs.Runs.{FarApart}
 use Rattle.search_rules.specs.Accepted.{Accepted, EachTaken, StartTaken, Unbroken, StepTaken}
 use Rattle.search_rules.proofs.Apart.{far-apart, qualified}
 use Rattle.search_rules.proofs.Checking.{start-checks, step-checks, step-passed, step-passes}
-use Rattle.search_rules.proofs.Unbroken.{count-taken, unbroken-exactly}
+use Rattle.search_rules.proofs.Unbroken.{unbroken-exactly}
 use Rattle.search_rules.proofs.Rows.{Good}
 
 -- ---- start

@@ -13,7 +13,7 @@ use lib.ListN.{length, getD, replicate}
 use borrow.Author.Tests.{le-leb}
 use Rattle.limits.specs.Answers.{Said, value}
 use Rattle.limits.specs.Taken.{f32Of}
-use Rattle.limits.proofs.HueCount.{hue-count}
+use Rattle.limits.proofs.HueCount.{hue-count, count-taken}
 use Rattle.limits.proofs.Tests.{joined}
 use Rattle.limits.proofs.Checks.{AllPass, said}
 use Rattle.halving.proofs.Plain.{le-through}
@@ -32,7 +32,7 @@ use Rattle.search_rules.specs.Job.{begun, startSays, bestHeld, handed, h
 use Rattle.search_rules.specs.Runs.{start, step, run, since, unstarted, noted, historyFrom, history, OverOneTable, Lent, steps, wholeSearch}
 use Rattle.search_rules.specs.Accepted.{StartTaken}
 use Rattle.search_rules.proofs.Checking.{step-checks, step-passes}
-use Rattle.search_rules.proofs.Unbroken.{sound, unbroken-by, count-taken, best-back}
+use Rattle.search_rules.proofs.Unbroken.{sound, unbroken-by, best-back}
 use Rattle.search_rules.proofs.Floor.{BestF32, floor-f32, floor-from, floor-taken, chroma-plain, thirty-five, at-most-200}
 use Rattle.search_rules.proofs.Rows.{Good, shape, long, rows-f32, pair-says}
 use Rattle.search_rules.proofs.Kept.{starts-held}

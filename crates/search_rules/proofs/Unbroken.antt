@@ -11,13 +11,13 @@ use lib.Ieee.{Float, le}
 use lib.ListN.{length, getD}
 use borrow.Author.Tests.{leb-true, ltb-true, eqb-true, le-leb, lt-ltb, eq-eqb}
 use Rattle.limits.specs.Taken.{f32Of, hueCountTaken}
-use Rattle.limits.proofs.HueCount.{both, hue-count}
+use Rattle.limits.proofs.HueCount.{both, hue-count, count-taken}
 use Rattle.limits.proofs.Tests.{joined, AllTrue, all-true, true-all}
 use Rattle.search_rules.specs.declared.Best.{Best}
 use Rattle.search_rules.specs.declared.Best.the-variants.{None, Found}
 use Rattle.search_rules.specs.declared.Job.{Job}
 use Rattle.search_rules.specs.Job.{gapHeld, bestHeld, handed, huesHeld, unbroken}
-use Rattle.search_rules.specs.Accepted.{Between, BestWithin, HueWithin, Unbroken}
+use Rattle.search_rules.specs.Accepted.{BestWithin, HueWithin, Unbroken}
 
 -- ---- the tests
 abbrev pub tests : Job → List Bool
@@ -71,11 +71,7 @@ unbroken-by j s =
 pub square : (n : ℕ) → n ≤ 169 → n * n ≤ 28561
 square n h = mul-le-mul h h
 
--- ---- a hue count, the hues and the best so far, by their tests and in so many words
-pub count-taken : (k : ℕ) → Between 1 16 k → hueCountTaken k ≡ true
-unfolding hueCountTaken
-count-taken k h = joined (leb 1 k) (leb k 16) (le-leb 1 k (h .0)) (le-leb k 16 (h .1))
-
+-- ---- the hues and the best so far, by their tests and in so many words
 hues-in : (n : ℕ) (hs : List ℕ) → huesHeld n hs ≡ true → (p : ℕ) → p < length hs → (p < n → getD hs p 0 ≤ 719) × (n ≤ p → getD hs p 0 ≡ 0)
 unfolding huesHeld
 hues-in n [] h p l = absurd (not-suc-le-zero l)
