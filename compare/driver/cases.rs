@@ -104,22 +104,27 @@ pub fn line(out: &mut dyn Write, operation: &str, words: &[u32]) -> io::Result<(
     writeln!(out)
 }
 
-/// Writes how many answers of each kind there are: found, none, and refused by each number.
-pub fn tally(
-    out: &mut dyn Write,
-    what: &str,
-    found: u64,
-    nothing: u64,
-    refused: &BTreeMap<u32, u64>,
-) -> io::Result<()> {
-    let all: u64 = refused.values().sum();
-    let each = refused.iter();
-    let by: Vec<_> = each.map(|(n, times)| format!("{times} by {n}")).collect();
-    let by = by.join(", ");
-    writeln!(
-        out,
-        "# {what}: {found} found, {nothing} none, {all} refused: {by}."
-    )
+/// How many answers of each kind there are: found, none, and refused by each number.
+#[derive(Default)]
+pub struct Tally {
+    pub found: u64,
+    pub nothing: u64,
+    pub refused: BTreeMap<u32, u64>,
+}
+
+impl Tally {
+    /// Writes it, of calls of one kind.
+    pub fn write(&self, out: &mut dyn Write, what: &str) -> io::Result<()> {
+        let Tally { found, nothing, .. } = self;
+        let all: u64 = self.refused.values().sum();
+        let each = self.refused.iter();
+        let by: Vec<_> = each.map(|(n, times)| format!("{times} by {n}")).collect();
+        let by = by.join(", ");
+        writeln!(
+            out,
+            "# {what}: {found} found, {nothing} none, {all} refused: {by}."
+        )
+    }
 }
 
 /// Writes a case that is wrong on purpose: a line `wrong`, then this case with its words changed.

@@ -1,7 +1,7 @@
 //! The best over a set of levels: the call with its refusals, and its lines in a list of search
 //! cases.
 
-use crate::cases::{line, tally, word, wrong};
+use crate::cases::{line, word, wrong, Tally};
 use crate::job::{whole_rows, BAD_ENTRY, BAD_HUE_COUNT, BAD_TABLE, BAD_WORK, ROOM};
 use crate::lists::step as float_step;
 use crate::pairing;
@@ -9,7 +9,6 @@ use crate::placement::takes;
 use crate::placing::{feasible, step};
 use crate::search::Searches;
 use crate::standins::{BAD_LEVEL, DIRECTIONS};
-use std::collections::BTreeMap;
 use std::io;
 
 /// The refusal of a list of levels by its length.
@@ -133,9 +132,7 @@ fn words_of((k, room): Asked, answer: &Answer) -> Vec<u32> {
 pub struct LevelSets<'a, 'b> {
     pub tables: &'a mut Searches<'b>,
     levels: Vec<u32>,
-    found: u64,
-    nothing: u64,
-    refused: BTreeMap<u32, u64>,
+    tally: Tally,
     zero: u64,
     moved: u64,
     again: u64,
@@ -147,9 +144,7 @@ impl<'a, 'b> LevelSets<'a, 'b> {
         LevelSets {
             tables,
             levels: vec![],
-            found: 0,
-            nothing: 0,
-            refused: BTreeMap::new(),
+            tally: Tally::default(),
             zero: 0,
             moved: 0,
             again: 0,
@@ -176,16 +171,16 @@ impl<'a, 'b> LevelSets<'a, 'b> {
     fn count(&mut self, k: usize, answer: &Answer) {
         let best = match answer {
             Ok(best) => best,
-            Err(number) => return *self.refused.entry(*number).or_default() += 1,
+            Err(number) => return *self.tally.refused.entry(*number).or_default() += 1,
         };
         let m = common(self.tables.table(), &self.levels);
         hold(&m, k, best);
         let Some((chroma, hues)) = best else {
-            return self.nothing += 1;
+            return self.tally.nothing += 1;
         };
         let first = feasible(&m, m.len(), k, step(k), 0.0);
         let twice = |i: usize| self.levels[..i].contains(&self.levels[i]);
-        self.found += 1;
+        self.tally.found += 1;
         self.zero += u64::from(*chroma == 0.0);
         self.moved += u64::from(first.as_ref() != Some(hues));
         self.again += u64::from((0..self.levels.len()).any(twice));
@@ -214,14 +209,7 @@ impl<'a, 'b> LevelSets<'a, 'b> {
 
     /// Writes how many answers of each kind there are.
     pub fn end(&mut self) -> io::Result<()> {
-        let (found, nothing) = (self.found, self.nothing);
-        tally(
-            self.tables.out(),
-            "Sets of levels",
-            found,
-            nothing,
-            &self.refused,
-        )?;
+        self.tally.write(self.tables.out(), "Sets of levels")?;
         writeln!(
             self.tables.out(),
             "# Of those found, {} have the chroma 0, {} have other hues than at 0, and {} name a level twice.",

@@ -8,7 +8,9 @@ use crate::placement_lists::{EDGES, REFUSED};
 use crate::placing;
 use crate::random::Random;
 use crate::search::{Searches, STORED};
-use crate::search_lists::{banded, flat, random_table, rows_of, BAD_COUNTS, CHEAP, KINDS, MIDST};
+use crate::search_lists::{
+    banded, flat, random_table, rows_of, BAD_COUNTS, CHEAP, KINDS, LENGTHS, MIDST,
+};
 use crate::standins::{DIRECTIONS, LEVELS};
 use crate::wrong_lists;
 use std::io::{self, Write};
@@ -293,21 +295,7 @@ fn indices(list: &mut LevelSets) -> io::Result<()> {
 fn lengths(list: &mut LevelSets) -> io::Result<()> {
     list.tables.resize(STORED)?;
     list.tables.same(0, STORED, 50.0)?;
-    let most = LEVELS * DIRECTIONS;
-    for n in [
-        0,
-        1,
-        719,
-        720,
-        721,
-        1440,
-        65536,
-        most - 720,
-        most - 1,
-        most,
-        most + 1,
-        STORED,
-    ] {
+    for n in LENGTHS {
         list.tables.resize(n)?;
         let rows = (n / DIRECTIONS) as u32;
         list.name(&[0, rows.saturating_sub(1)])?;

@@ -1,12 +1,11 @@
 //! The best with one hue fixed: the call with its refusals, and its lines in a list of search
 //! cases.
 
-use crate::cases::{line, tally, word, wrong};
+use crate::cases::{line, word, wrong, Tally};
 use crate::job::{indices, table_refusal, FLOOR};
 use crate::pairing;
 use crate::search::{Searches, FEW_LEVELS};
 use crate::standins::DIRECTIONS;
-use std::collections::BTreeMap;
 use std::io;
 use std::ops::RangeInclusive;
 
@@ -106,9 +105,7 @@ fn words_of((gap, hue): Asked, answer: Answer) -> Vec<u32> {
 /// Calls with a hue fixed, over the tables of a list of search cases, and what they answer.
 pub struct Orientations<'a, 'b> {
     pub tables: &'a mut Searches<'b>,
-    found: u64,
-    nothing: u64,
-    refused: BTreeMap<u32, u64>,
+    tally: Tally,
     below: u64,
     again: u64,
 }
@@ -118,9 +115,7 @@ impl<'a, 'b> Orientations<'a, 'b> {
     pub fn over(tables: &'a mut Searches<'b>) -> Orientations<'a, 'b> {
         Orientations {
             tables,
-            found: 0,
-            nothing: 0,
-            refused: BTreeMap::new(),
+            tally: Tally::default(),
             below: 0,
             again: 0,
         }
@@ -130,11 +125,11 @@ impl<'a, 'b> Orientations<'a, 'b> {
     fn count(&mut self, asked: Asked, answer: Answer) {
         match answer {
             Ok(Some(best)) => {
-                self.found += 1;
+                self.tally.found += 1;
                 self.below += u64::from(best.partner < asked.1);
             }
-            Ok(None) => self.nothing += 1,
-            Err(number) => *self.refused.entry(number).or_default() += 1,
+            Ok(None) => self.tally.nothing += 1,
+            Err(number) => *self.tally.refused.entry(number).or_default() += 1,
         }
         let table = self.tables.table();
         if let Ok(best) = answer
@@ -170,14 +165,7 @@ impl<'a, 'b> Orientations<'a, 'b> {
 
     /// Writes how many answers of each kind there are.
     pub fn end(&mut self) -> io::Result<()> {
-        let (found, nothing) = (self.found, self.nothing);
-        tally(
-            self.tables.out(),
-            "One hue fixed",
-            found,
-            nothing,
-            &self.refused,
-        )?;
+        self.tally.write(self.tables.out(), "One hue fixed")?;
         writeln!(
             self.tables.out(),
             "# Of those found, {} have a partner below the fixed hue; in {} over at most {FEW_LEVELS} levels another pair or partner reaches the chroma too.",

@@ -8,7 +8,8 @@ use crate::placement_lists::{EDGES, REFUSED};
 use crate::random::Random;
 use crate::search::{Searches, ENTRIES_A_LINE, STORED};
 use crate::search_lists::{
-    far_table, flat, random_gap, random_table, rows_of, tied, BAD_GAPS, CHEAP, FAR, MIDST, RISING,
+    far_table, flat, random_gap, random_table, rows_of, tied, BAD_GAPS, CHEAP, FAR, LENGTHS, MIDST,
+    RISING,
 };
 use crate::standins::{DIRECTIONS, LEVELS};
 use crate::wrong_lists;
@@ -211,25 +212,7 @@ fn faulty(
 fn lengths(list: &mut Orientations) -> io::Result<()> {
     list.tables.resize(STORED)?;
     list.tables.same(0, STORED, 50.0)?;
-    let most = LEVELS * DIRECTIONS;
-    for n in [
-        0,
-        1,
-        719,
-        720,
-        721,
-        1440,
-        2159,
-        2160,
-        2161,
-        65536,
-        most - 720,
-        most - 1,
-        most,
-        most + 1,
-        STORED - 1,
-        STORED,
-    ] {
+    for n in LENGTHS {
         list.tables.resize(n)?;
         list.orient((0.0, 719))?;
         list.orient((0.0, 720))?;

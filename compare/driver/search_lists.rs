@@ -23,6 +23,25 @@ pub const BAD_GAPS: [f32; 7] = [
 ];
 /// Hue counts that are refused, one of which is taken where its high bits get lost.
 pub const BAD_COUNTS: [u32; 4] = [0, 17, u32::MAX, 257];
+/// Lengths of a table at and beyond the ends of what is taken, and at and beside those of a row.
+pub const LENGTHS: [usize; 16] = [
+    0,
+    1,
+    DIRECTIONS - 1,
+    DIRECTIONS,
+    DIRECTIONS + 1,
+    2 * DIRECTIONS,
+    3 * DIRECTIONS - 1,
+    3 * DIRECTIONS,
+    3 * DIRECTIONS + 1,
+    65_536,
+    (LEVELS - 1) * DIRECTIONS,
+    LEVELS * DIRECTIONS - 1,
+    LEVELS * DIRECTIONS,
+    LEVELS * DIRECTIONS + 1,
+    STORED - 1,
+    STORED,
+];
 /// Chromas that no best may have.
 const BAD_CHROMAS: [f32; 8] = [
     34.9,
