@@ -6,3 +6,4 @@ pub mod Allowed
 pub mod Checking
 pub mod Stored
 pub mod Step
+pub mod Round
