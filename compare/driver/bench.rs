@@ -275,13 +275,13 @@ fn place(m: &[f32], asked: &Asked, work: &mut [u16]) -> (u32, [u16; 16]) {
 fn placement_refusals() {
     let ring = [40.0; 8];
     for (number, length, k, step, c, room) in [
-        (1, 8, 0, 2, 40.0, 24),
-        (1, 8, 17, 2, 40.0, 24),
-        (3, 8, 2, 2, f32::NAN, 24),
-        (4, 0, 2, 2, 40.0, 24),
-        (5, 8, 2, 9, 40.0, 24),
-        (5, 8, 2, usize::MAX, 40.0, 24),
-        (8, 8, 2, 2, 40.0, 23),
+        (1, 8, 0, 2, 40.0, 8),
+        (1, 8, 17, 2, 40.0, 8),
+        (3, 8, 2, 2, f32::NAN, 8),
+        (4, 0, 2, 2, 40.0, 8),
+        (5, 8, 2, 9, 40.0, 8),
+        (5, 8, 2, usize::MAX, 40.0, 8),
+        (8, 8, 2, 2, 40.0, 7),
     ] {
         let asked = Asked {
             ring: 0,
@@ -303,7 +303,7 @@ fn placement_refusals() {
 fn placements(table: &[f32]) {
     let rings = rings(table);
     let asked = questions(&rings);
-    let mut work = vec![0; 3 * DIRECTIONS];
+    let mut work = vec![0; DIRECTIONS];
     let (mut one, mut other) = (vec![], vec![]);
     compare(
         &format!("{} placements on {} rings", asked.len(), rings.len()),
@@ -392,14 +392,14 @@ fn best(a: &[f32], b: &[f32], pair: &Pair, work: &mut [u16]) -> Best {
 fn pair_refusals() {
     let (row, bad) = ([40.0; 8], [f32::NAN; 8]);
     for (number, a, b, k, step, floor, room) in [
-        (1, &row[..], &row[..], 17, 2, FLOOR, 24),
-        (3, &row, &row, 2, 2, -0.0, 24),
-        (4, &row, &row[..7], 2, 2, FLOOR, 24),
-        (4, &row[..0], &row[..0], 2, 2, FLOOR, 24),
-        (5, &row, &row, 2, usize::MAX, FLOOR, 24),
-        (7, &bad, &row, 2, 2, FLOOR, 24),
-        (7, &row, &bad, 2, 2, FLOOR, 24),
-        (8, &row, &row, 2, 2, FLOOR, 23),
+        (1, &row[..], &row[..], 17, 2, FLOOR, 8),
+        (3, &row, &row, 2, 2, -0.0, 8),
+        (4, &row, &row[..7], 2, 2, FLOOR, 8),
+        (4, &row[..0], &row[..0], 2, 2, FLOOR, 8),
+        (5, &row, &row, 2, usize::MAX, FLOOR, 8),
+        (7, &bad, &row, 2, 2, FLOOR, 8),
+        (7, &row, &bad, 2, 2, FLOOR, 8),
+        (8, &row, &row, 2, 2, FLOOR, 7),
     ] {
         let pair = Pair {
             dark: 0,
@@ -436,7 +436,7 @@ fn bests(table: &[f32]) {
     let pairs = pairs();
     let row = |level: usize| &table[level * DIRECTIONS..][..DIRECTIONS];
     let gamut = pairing::over(LEVELS, DIRECTIONS, table.to_vec());
-    let mut work = vec![0; 3 * DIRECTIONS];
+    let mut work = vec![0; DIRECTIONS];
     let (mut one, mut other) = (vec![], vec![]);
     compare(
         &format!("{} pairs of rows", pairs.len()),
@@ -492,7 +492,7 @@ fn search(table: &[f32], k: usize, gap: f32, work: &mut [u16]) -> Searched {
 /// Checks that our archive refuses what it must, with all that it is lent then as before.
 fn search_refusals() {
     let (table, bad) = ([40.0; 3 * DIRECTIONS], [f32::NAN; 3 * DIRECTIONS]);
-    let room = 3 * DIRECTIONS;
+    let room = DIRECTIONS;
     for (number, table, k, gap, room) in [
         (1, &table[..], 17, GAP, room),
         (2, &table, 2, f32::NAN, room),
@@ -533,7 +533,7 @@ fn expected_search(theirs: Option<pairing::Solution>) -> Searched {
 /// Searches the whole table for one hue count by both sides, compares what they give, and gives
 /// the times of both.
 fn searched(table: &[f32], gamut: &pairing::Gamut, k: usize) -> [Vec<f64>; 2] {
-    let mut work = vec![0; 3 * DIRECTIONS];
+    let mut work = vec![0; DIRECTIONS];
     let (mut one, mut other) = (None, None);
     let times = in_turns(
         SEARCH_TURNS,

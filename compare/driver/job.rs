@@ -18,8 +18,8 @@ const FINISHED: u32 = 14;
 const BROKEN: u32 = 15;
 /// The least chroma that a palette may have.
 pub const FLOOR: f32 = 35.0;
-/// How long a work buffer must be.
-pub const ROOM: usize = 3 * DIRECTIONS;
+/// How long a work buffer must be: one lap.
+pub const ROOM: usize = DIRECTIONS;
 
 /// A job record; the best is a chroma with the dark and the light level index.
 #[derive(Clone, Copy)]
@@ -156,8 +156,10 @@ pub fn start(k: u32, gap: f32, table: &[f32]) -> Result<Job, u32> {
     })
 }
 
-/// The number of the first refusal of a step before it reads a row, in the order of document 01.
-fn step_refusal(table: &[f32], room: usize, job: &Job) -> Option<u32> {
+/// The number of the first refusal of a step, in the order of document 01; entries are asked for
+/// only where the next pair is far enough apart, and only its own.
+pub fn step_refusal(table: &[f32], room: usize, job: &Job) -> Option<u32> {
+    let taken = || job.rows(table).concat().into_iter().all(takes);
     let asked = [
         (BROKEN, job.is_whole()),
         (FINISHED, u64::from(job.position) != job.pairs()),
@@ -168,6 +170,7 @@ fn step_refusal(table: &[f32], room: usize, job: &Job) -> Option<u32> {
         .iter()
         .find(|(_, fine)| !fine)
         .map(|(number, _)| *number)
+        .or_else(|| (job.qualifies() && !taken()).then_some(BAD_ENTRY))
 }
 
 /// A step: the job after it, or the number of its refusal.
@@ -181,9 +184,6 @@ pub fn step(table: &[f32], room: usize, job: Job) -> Result<Job, u32> {
     };
     if !job.qualifies() {
         return Ok(next);
-    }
-    if !job.rows(table).concat().into_iter().all(takes) {
-        return Err(BAD_ENTRY);
     }
     if let Some((chroma, hues)) = job.found(table)
         && job.best.is_none_or(|(best, ..)| chroma > best)
@@ -201,12 +201,18 @@ pub fn indices(levels: [f32; 2]) -> [u32; 2] {
     levels.map(|level| ((level - l_of(0)) * 2.0) as u32)
 }
 
-/// A whole search by the published file: the job after it, or the number of its refusal.
-pub fn search(k: u32, gap: f32, table: &[f32], room: usize) -> Result<Job, u32> {
-    let mut job = start(k, gap, table)?;
+/// The job with which a whole search begins, or the number of its refusal.
+pub fn begun(k: u32, gap: f32, table: &[f32], room: usize) -> Result<Job, u32> {
+    let job = start(k, gap, table)?;
     if room < ROOM {
         return Err(BAD_WORK);
     }
+    Ok(job)
+}
+
+/// A whole search by the published file: the job after it, or the number of its refusal.
+pub fn search(k: u32, gap: f32, table: &[f32], room: usize) -> Result<Job, u32> {
+    let mut job = begun(k, gap, table, room)?;
     let gamut = pairing::over(job.levels as usize, DIRECTIONS, table.to_vec());
     job.position = job.pairs() as u32;
     if let Some(solution) = pairing::search(&gamut, k as usize, gap) {

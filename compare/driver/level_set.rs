@@ -7,6 +7,7 @@ use crate::lists::step as float_step;
 use crate::pairing;
 use crate::placement::takes;
 use crate::placing::{feasible, step};
+use crate::rooms::sides;
 use crate::search::Searches;
 use crate::standins::{BAD_LEVEL, DIRECTIONS};
 use std::io;
@@ -187,17 +188,37 @@ impl<'a, 'b> LevelSets<'a, 'b> {
     }
 
     /// Writes a call, and gives the words for the answer.
-    pub fn set(&mut self, asked: Asked) -> io::Result<Vec<u32>> {
+    pub fn set_in(&mut self, asked: Asked) -> io::Result<Vec<u32>> {
         let answer = self.answer(asked);
         self.count(asked.0 as usize, &answer);
         line(self.tables.out(), "set", &words_of(asked, &answer))?;
         Ok(said(&answer))
     }
 
-    /// Writes a call of which the answer is worked out by hand, and must be in these words.
-    pub fn must(&mut self, asked: Asked, expected: &[u32]) -> io::Result<()> {
-        let given = self.set(asked)?;
+    /// Writes a call for this hue count with the rooms that the list gives it, and gives the words
+    /// for the answer with one that is long enough.
+    pub fn set(&mut self, k: u32) -> io::Result<Vec<u32>> {
+        let table = self.tables.table();
+        let refused = sides(ROOM).map(|room| refusal(table, &self.levels, (k, room)));
+        let mut given = vec![];
+        for room in self.tables.rooms().next(ROOM, refused) {
+            given = self.set_in((k, room))?;
+        }
+        Ok(given)
+    }
+
+    /// Writes a call for this hue count with the rooms that the list gives it; the answer with one
+    /// that is long enough is worked out by hand, and must be in these words.
+    pub fn must(&mut self, k: u32, expected: &[u32]) -> io::Result<()> {
+        let given = self.set(k)?;
         assert!(given == expected, "not what is worked out by hand");
+        Ok(())
+    }
+
+    /// Writes a call that must be refused by this number.
+    pub fn must_refuse(&mut self, asked: Asked, number: u32) -> io::Result<()> {
+        let given = self.set_in(asked)?;
+        assert!(given == [number], "not what is worked out by hand");
         Ok(())
     }
 

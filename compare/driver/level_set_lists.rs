@@ -7,6 +7,7 @@ use crate::lists::step as float_step;
 use crate::placement_lists::{EDGES, REFUSED};
 use crate::placing;
 use crate::random::Random;
+use crate::rooms::{edges, Rooms};
 use crate::search::{Searches, STORED};
 use crate::search_lists::{
     banded, flat, random_table, rows_of, BAD_COUNTS, CHEAP, KINDS, LENGTHS, MIDST,
@@ -61,7 +62,8 @@ pub fn fixed(tables: &mut Searches) -> io::Result<()> {
 /// Writes a random list of this many calls, of which the tables have 1 to 9 levels in turn; each
 /// that is accepted stands there again with its list in other orders.
 pub fn many(out: &mut dyn Write, seed: u64, count: usize) -> io::Result<()> {
-    let mut tables = Searches::begin(out, &format!("level-set-many {seed} {count}"))?;
+    let command = format!("level-set-many {seed} {count}");
+    let mut tables = Searches::begin(out, &command, Rooms::of_seed(seed))?;
     let mut list = LevelSets::over(&mut tables);
     let mut random = Random(seed);
     let mut left = count;
@@ -81,7 +83,7 @@ fn alike(list: &mut LevelSets, lists: &[Vec<u32>], k: u32) -> io::Result<()> {
     let mut given = vec![];
     for levels in lists {
         list.name(levels)?;
-        given.push(list.set((k, ROOM))?);
+        given.push(list.set(k)?);
     }
     let one = given.windows(2).all(|two| two[0] == two[1]);
     assert!(one, "another order gives another answer");
@@ -102,23 +104,23 @@ fn in_orders(list: &mut LevelSets, levels: &[u32], k: u32) -> io::Result<()> {
 /// Writes calls whose answers follow from the rule without working out a table.
 fn by_hand(list: &mut LevelSets) -> io::Result<()> {
     list.tables.set(&flat(1, 0.0))?;
-    list.must((1, ROOM), &[18])?;
+    list.must(1, &[18])?;
     list.name(&[0])?;
-    list.must((1, ROOM), &[0])?;
+    list.must(1, &[0])?;
     list.tables.more(333, &[50.0])?;
-    list.must((2, ROOM), &[0, 0, 0, 301])?;
+    list.must(2, &[0, 0, 0, 301])?;
     list.tables.more(333, &[f32::from_bits(1)])?;
-    list.must((1, ROOM), &[0, 0, 0])?;
+    list.must(1, &[0, 0, 0])?;
     // Thirty halvings of 200 end above 2^-24 and below 2^-20.
     for (power, bits) in [(-20, 0x357a_0000), (-24, 0)] {
         list.tables.set(&flat(1, 2f32.powi(power)))?;
         list.tables.more(333, &[200.0])?;
-        list.must((2, ROOM), &[0, bits, 0, 301])?;
+        list.must(2, &[0, bits, 0, 301])?;
     }
     list.tables.set(&flat(1, f32::from_bits(0x4300_0001)))?;
-    list.must((1, ROOM), &[0, 0x4300_0000, 0])?;
+    list.must(1, &[0, 0x4300_0000, 0])?;
     list.name(&[0; 9])?;
-    list.must((1, ROOM), &[18])?;
+    list.must(1, &[18])?;
     by_hand_halves(list)?;
     random_table(list.tables, &mut Random(38), 1, 3)?;
     let lists = [vec![0, 1, 2], vec![2, 1, 0, 0, 1, 1, 2, 2]];
@@ -140,12 +142,12 @@ fn by_hand_halves(list: &mut LevelSets) -> io::Result<()> {
         (&[0, 1], &[0]),
     ] {
         list.name(levels)?;
-        list.must((1, ROOM), expected)?;
+        list.must(1, expected)?;
     }
-    list.must((16, ROOM), &[0])?;
+    list.must(16, &[0])?;
     list.tables.more(DIRECTIONS + 359, &[70.0])?;
-    list.must((1, ROOM), &[0, word(50.0), 359])?;
-    list.must((2, ROOM), &[0, 0, 0, 301])
+    list.must(1, &[0, word(50.0), 359])?;
+    list.must(2, &[0, 0, 0, 301])
 }
 
 /// Writes calls with a fault or two, of which the one that is looked for first is given.
@@ -159,20 +161,20 @@ fn by_hand_refused(list: &mut LevelSets) -> io::Result<()> {
         (&[1, 2], &[11]),
     ] {
         list.name(levels)?;
-        list.must((1, ROOM), expected)?;
+        list.must(1, expected)?;
     }
     list.name(&[])?;
-    list.must((1, SHORT), &[8])?;
-    list.must((1, ROOM), &[18])?;
+    list.must_refuse((1, SHORT), 8)?;
+    list.must(1, &[18])?;
     list.name(&[0, 0, 0, 0, 200, 0, 0, 0, 0])?;
-    list.must((1, ROOM), &[18])?;
+    list.must(1, &[18])?;
     list.tables.set(&flat(3, 50.0))?;
     list.tables.more(0, &[f32::NAN])?;
     list.name(&[0, 3])?;
-    list.must((1, ROOM), &[11])?;
+    list.must(1, &[11])?;
     list.tables.resize(3 * DIRECTIONS + 1)?;
-    list.must((1, SHORT), &[6])?;
-    list.must((17, SHORT), &[1])
+    list.must_refuse((1, SHORT), 6)?;
+    list.must_refuse((17, SHORT), 1)
 }
 
 /// Writes a job, then one call of each kind, and a step of that job, which they leave as it was.
@@ -181,7 +183,7 @@ fn beside_a_job(list: &mut LevelSets) -> io::Result<()> {
     list.tables.lend(MIDST)?;
     for levels in [[0, 1], [1, 3], [0, 4]] {
         list.name(&levels)?;
-        list.set((3, ROOM))?;
+        list.set(3)?;
     }
     list.tables.step()
 }
@@ -221,11 +223,12 @@ fn faulty(
     }
     let (count, any) = (random.pick(&BAD_COUNTS), random.below(ROOM));
     let short = random.pick(&[0, SHORT, any]);
-    let asked = (
-        if has(0) { count } else { k },
-        if has(2) { short } else { ROOM },
-    );
-    let number = list.set(asked)?[0];
+    let k = if has(0) { count } else { k };
+    let number = if has(2) {
+        list.set_in((k, short))?[0]
+    } else {
+        list.set(k)?[0]
+    };
     let first = FAULTS.get(set.trailing_zeros() as usize);
     assert!(number == *first.unwrap_or(&0), "another fault comes first");
     if has(5) {
@@ -267,14 +270,14 @@ fn ends(list: &mut LevelSets) -> io::Result<()> {
     list.tables.set(&rows_of(&[60.0, 50.0]))?;
     list.name(&[0, 1])?;
     for k in (0..=17).chain(BAD_COUNTS) {
-        list.set((k, ROOM))?;
+        list.set(k)?;
     }
-    for room in [0, 1, 719, 720, SHORT, ROOM, ROOM + 1, 2400] {
-        list.set((2, room))?;
+    for room in edges(ROOM).into_iter().chain([2400]) {
+        list.set_in((2, room))?;
     }
     for count in (0..=MOST + 2).chain([16, NAMED_A_LINE]) {
         list.name(&vec![count as u32 % 2; count])?;
-        list.set((2, ROOM))?;
+        list.set(2)?;
     }
     Ok(())
 }
@@ -285,7 +288,7 @@ fn indices(list: &mut LevelSets) -> io::Result<()> {
     for index in [2, 3, 4, 168].into_iter().chain(BAD_INDICES) {
         for levels in [&[index][..], &[index, 1, 0], &[0, 1, 0, 1, 0, 1, 0, index]] {
             list.name(levels)?;
-            list.set((2, ROOM))?;
+            list.set(2)?;
         }
     }
     Ok(())
@@ -299,9 +302,9 @@ fn lengths(list: &mut LevelSets) -> io::Result<()> {
         list.tables.resize(n)?;
         let rows = (n / DIRECTIONS) as u32;
         list.name(&[0, rows.saturating_sub(1)])?;
-        list.set((2, ROOM))?;
+        list.set(2)?;
         list.name(&[0, rows])?;
-        list.set((2, ROOM))?;
+        list.set(2)?;
     }
     Ok(())
 }
@@ -316,7 +319,7 @@ fn entries(list: &mut LevelSets) -> io::Result<()> {
         for j in 0..2 {
             let at = places[(2 * i + j) % places.len()];
             list.tables.more(at, &[v])?;
-            list.set((1, ROOM))?;
+            list.set(1)?;
             list.tables.more(at, &[50.0])?;
         }
     }
@@ -333,7 +336,7 @@ fn values(list: &mut LevelSets) -> io::Result<()> {
         list.tables.set(&rows_of(&[v, other]))?;
         for (levels, k) in [(&[0][..], 1), (&[1, 0], 16)] {
             list.name(levels)?;
-            list.set((k, ROOM))?;
+            list.set(k)?;
         }
     }
     list.tables.set(&flat(1, 0.0))?;
@@ -342,7 +345,7 @@ fn values(list: &mut LevelSets) -> io::Result<()> {
         let at = [0, 719, 360][i % 3];
         list.tables.more(at, &[v])?;
         for k in [1, 2] {
-            list.set((k, ROOM))?;
+            list.set(k)?;
         }
         list.tables.more(at, &[0.0])?;
     }
@@ -383,9 +386,9 @@ fn tight(list: &mut LevelSets) -> io::Result<()> {
 fn whole_panel(list: &mut LevelSets) -> io::Result<()> {
     list.tables.panel(0, LEVELS)?;
     list.name(&FOUR)?;
-    list.must((4, ROOM), &[0, word(28.247828), 150, 301, 568, 719])?;
+    list.must(4, &[0, word(28.247828), 150, 301, 568, 719])?;
     for k in 1..=16 {
-        list.set((k, ROOM))?;
+        list.set(k)?;
     }
     let spread = [3, 20, 40, 77, 78, 120, 140, 165];
     for n in 1..=MOST {
@@ -399,7 +402,7 @@ fn whole_panel(list: &mut LevelSets) -> io::Result<()> {
     }
     for level in [0, LEVELS as u32 - 1] {
         list.name(&[level, 84])?;
-        list.set((8, ROOM))?;
+        list.set(8)?;
     }
     Ok(())
 }

@@ -9,8 +9,8 @@ use crate::{expected, in_turns, report, sums, Best, BEFORE, BEFORE_CHROMA, TURNS
 const FOUR: [usize; 4] = [20, 40, 120, 140];
 /// How many sets of four levels there are.
 const SETS: usize = 20;
-/// How long a work buffer must be.
-const ROOM: usize = 3 * DIRECTIONS;
+/// How long a work buffer must be: one lap.
+const ROOM: usize = DIRECTIONS;
 
 unsafe extern "C" {
     /// The function of crates/exports: a slice is its address, then its length.

@@ -30,6 +30,7 @@ mod placing; // feasible, place_from and the step, taken from the published file
 #[allow(dead_code)]
 mod published; // the published file as it is, for `check`
 mod random;
+mod rooms;
 mod search;
 mod search_lists;
 mod standins;

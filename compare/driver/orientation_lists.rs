@@ -6,6 +6,7 @@ use crate::lists::step as float_step;
 use crate::orientation::{Asked, Orientations};
 use crate::placement_lists::{EDGES, REFUSED};
 use crate::random::Random;
+use crate::rooms::Rooms;
 use crate::search::{Searches, ENTRIES_A_LINE, STORED};
 use crate::search_lists::{
     far_table, flat, random_gap, random_table, rows_of, tied, BAD_GAPS, CHEAP, FAR, LENGTHS, MIDST,
@@ -56,7 +57,8 @@ pub fn fixed(tables: &mut Searches) -> io::Result<()> {
 
 /// Writes a random list of this many calls, of which the tables have 1 to 12 levels in turn.
 pub fn many(out: &mut dyn Write, seed: u64, count: usize) -> io::Result<()> {
-    let mut tables = Searches::begin(out, &format!("orientation-many {seed} {count}"))?;
+    let command = format!("orientation-many {seed} {count}");
+    let mut tables = Searches::begin(out, &command, Rooms::of_seed(seed))?;
     let mut list = Orientations::over(&mut tables);
     let mut random = Random(seed);
     let mut left = count;

@@ -4,6 +4,7 @@ use crate::cases::{head, line, word, wrong};
 use crate::pairing;
 use crate::placement::{refusal, Call, STORED};
 use crate::placing;
+use crate::rooms::{sides, Rooms};
 use std::io::{self, Write};
 
 /// How many entries one line can set.
@@ -59,6 +60,7 @@ pub struct Pairs<'a> {
     out: &'a mut dyn Write,
     entries: [[f32; STORED]; 2],
     lengths: [usize; 2],
+    rooms: Rooms,
     found: u64,
     nothing: u64,
     refused: u64,
@@ -76,6 +78,7 @@ impl Pairs<'_> {
             out,
             entries: [[0.0; STORED]; 2],
             lengths: [0; 2],
+            rooms: Rooms::InTurn(0),
             found: 0,
             nothing: 0,
             refused: 0,
@@ -168,15 +171,37 @@ impl Pairs<'_> {
         })
     }
 
-    /// Writes the best of a pair with a work buffer just long enough, and gives its chroma.
+    /// Writes the best of a pair with the rooms that a fixed list gives it, and gives its chroma; a
+    /// room that is too short stays.
+    pub fn in_turn(&mut self, call: Call) -> io::Result<Option<f32>> {
+        let n = self.lengths[0];
+        if call.room < n {
+            return self.best(call);
+        }
+        let with = |room: usize| Call { room, ..call };
+        let refused = sides(n).map(|room| refusal(&self.rows(), with(room)));
+        let mut chroma = None;
+        for room in self.rooms.next(n, refused) {
+            chroma = self.best(with(room))?;
+        }
+        Ok(chroma)
+    }
+
+    /// Writes the best of a pair with the rooms that a fixed list gives it, and gives its chroma.
     pub fn from(&mut self, floor: f32, k: u32, step: u32) -> io::Result<Option<f32>> {
-        let room = 3 * self.lengths[0];
-        self.best(Call {
+        let room = self.lengths[0];
+        self.in_turn(Call {
             k,
             step,
             c: floor,
             room,
         })
+    }
+
+    /// Writes the best of a pair that is wrong on purpose.
+    pub fn wrong_best(&mut self, call: Call, change: impl FnOnce(&mut Vec<u32>)) -> io::Result<()> {
+        let words = words_of(call, &answer(self.rows(), call));
+        wrong(self.out, "best", &words, change)
     }
 
     /// Writes the best of a pair with a work buffer just long enough, wrong on purpose.
@@ -185,10 +210,8 @@ impl Pairs<'_> {
         (c, k, step): (f32, u32, u32),
         change: impl FnOnce(&mut Vec<u32>),
     ) -> io::Result<()> {
-        let room = 3 * self.lengths[0];
-        let call = Call { k, step, c, room };
-        let words = words_of(call, &answer(self.rows(), call));
-        wrong(self.out, "best", &words, change)
+        let room = self.lengths[0];
+        self.wrong_best(Call { k, step, c, room }, change)
     }
 
     /// Ends the list with how many answers of each kind it holds.

@@ -6,6 +6,7 @@ use crate::placement::{Call, STORED};
 use crate::placement_lists::{hidden, nudge, runs, tight, COUNTS, EDGES, REFUSED};
 use crate::placing;
 use crate::random::Random;
+use crate::rooms::{at_random, edges};
 use crate::wrong_lists;
 use std::io::{self, Write};
 
@@ -29,7 +30,7 @@ pub fn fixed(out: &mut dyn Write) -> io::Result<()> {
     doublings(&mut list)?;
     whole(&mut list, &mut random)?;
     for n in [3, 9, 16, 22, 23, 44, 45, 100, 180, 360, 500, 719, 720] {
-        random_pair(&mut list, &mut random, n, 24)?;
+        random_pair(&mut list, &mut random, (n, 24), Pairs::in_turn)?;
     }
     wrong_lists::pairs(&mut list)?;
     list.end()
@@ -48,7 +49,7 @@ pub fn many(out: &mut dyn Write, seed: u64, count: usize) -> io::Result<()> {
             _ => (turn - turn / 4) % 720 + 1,
         };
         let some = left.min(32);
-        random_pair(&mut list, &mut random, n, some)?;
+        random_pair(&mut list, &mut random, (n, some), Pairs::best)?;
         left -= some;
     }
     list.end()
@@ -134,13 +135,13 @@ fn last_entries(list: &mut Pairs, bad: [bool; 2]) -> io::Result<()> {
 /// Writes pairs on these rows with every set of the faults that do not lie in the rows.
 fn faults(list: &mut Pairs, kind: usize) -> io::Result<()> {
     let n = list.rows()[0].len();
-    let (length, need) = (n as u32, 3 * n);
+    let length = n as u32;
     for set in 0..16 {
         let mut call = Call {
             k: 2,
             step: 3,
             c: FLOOR,
-            room: need,
+            room: n,
         };
         let one = |values: [u32; 4]| values[(set + kind) % 4];
         if set & 1 != 0 {
@@ -153,9 +154,9 @@ fn faults(list: &mut Pairs, kind: usize) -> io::Result<()> {
             call.step = one([0, length + 1, u32::MAX, 65536 + 3]);
         }
         if set & 8 != 0 {
-            call.room = need.saturating_sub(1 + set % 2 * 7);
+            call.room = n.saturating_sub(1 + set % 2 * 7);
         }
-        list.best(call)?;
+        list.in_turn(call)?;
     }
     Ok(())
 }
@@ -172,7 +173,7 @@ fn arguments(list: &mut Pairs) -> io::Result<()> {
     for floor in REFUSED.into_iter().chain(EDGES) {
         list.from(floor, 2, 3)?;
     }
-    for room in [0, 8, 16, 23, 24, 25, 2400] {
+    for room in edges(SHORT.len()).into_iter().chain([2400]) {
         list.best(Call {
             k: 2,
             step: 3,
@@ -202,7 +203,8 @@ fn entries(list: &mut Pairs) -> io::Result<()> {
     Ok(())
 }
 
-/// Writes pairs of the shortest and the longest rows, for every hue count.
+/// Writes pairs of the shortest and the longest rows, for every hue count, and with work buffers at
+/// and beyond the ends.
 fn lengths(list: &mut Pairs) -> io::Result<()> {
     for n in [1, 2, 15, 16, 719, 720] {
         list.both([&vec![60.0; n], &vec![61.5; n]])?;
@@ -212,6 +214,14 @@ fn lengths(list: &mut Pairs) -> io::Result<()> {
         }
         list.from(FLOOR, 1, n as u32)?;
         list.from(0.0, 2, n as u32)?;
+        for room in edges(n) {
+            list.best(Call {
+                k: 1,
+                step: 1,
+                c: FLOOR,
+                room,
+            })?;
+        }
     }
     Ok(())
 }
@@ -360,8 +370,16 @@ fn two(random: &mut Random, kind: usize, n: usize) -> [Vec<f32>; 2] {
     [first, row(random, kind, n)]
 }
 
-/// Writes random rows of this length with this many pairs.
-fn random_pair(list: &mut Pairs, random: &mut Random, n: usize, some: usize) -> io::Result<()> {
+/// How a pair is written.
+type Writer<'a> = fn(&mut Pairs<'a>, Call) -> io::Result<Option<f32>>;
+
+/// Writes random rows of this length with this many pairs, each of them by `write`.
+fn random_pair<'a>(
+    list: &mut Pairs<'a>,
+    random: &mut Random,
+    (n, some): (usize, usize),
+    write: Writer<'a>,
+) -> io::Result<()> {
     let (k, step) = tight(random, n);
     let c = random.between(1.0, 190.0);
     let kind = random.below(2 * KINDS);
@@ -382,27 +400,32 @@ fn random_pair(list: &mut Pairs, random: &mut Random, n: usize, some: usize) -> 
             nudge(random, &mut call, n);
         }
         if random.below(32) == 0 {
-            spoilt(list, random, call)?;
+            spoilt(list, random, call, write)?;
         } else {
-            list.best(call)?;
+            write(list, call)?;
         }
     }
     Ok(())
 }
 
 /// Writes a pair with one entry that is refused, or with one row of another length.
-fn spoilt(list: &mut Pairs, random: &mut Random, call: Call) -> io::Result<()> {
+fn spoilt<'a>(
+    list: &mut Pairs<'a>,
+    random: &mut Random,
+    call: Call,
+    write: Writer<'a>,
+) -> io::Result<()> {
     let which = random.below(2);
     let row = list.rows()[which].to_vec();
     if random.below(2) == 0 {
         let at = random.below(row.len());
         list.more(which, at, &[random.pick(&REFUSED)])?;
-        list.best(call)?;
+        write(list, call)?;
         return list.more(which, at, &row[at..=at]);
     }
     let other = random.pick(&[0, 721, row.len() - 1, row.len() + 1]);
     list.resize(which, other)?;
-    list.best(call)?;
+    write(list, call)?;
     list.resize(which, row.len())
 }
 
@@ -433,14 +456,14 @@ fn random_call(random: &mut Random, m: &[f32]) -> Call {
         k: k as u32,
         step: step as u32,
         c: random_floor(random, m),
-        room: 3 * n + random.below(4),
+        room: at_random(random, n),
     };
     let apart = placing::step(k);
     match random.below(64) {
         0 => call.k = random.pick(&COUNTS),
         1 => call.c = random.pick(&REFUSED),
         2 => call.step = random.pick(&[0, n as u32 + 1, u32::MAX]),
-        3 => call.room = random.below(3 * n),
+        3 => call.room = random.below(n),
         4..32 if apart <= n => call.step = apart as u32,
         4..16 => call.step = random.below(n) as u32 + 1,
         16..32 => call.step = (n / (2 * k)).max(1) as u32,

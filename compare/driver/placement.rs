@@ -3,6 +3,7 @@
 use crate::cases::{head, line, word, wrong};
 use crate::gamut::digest;
 use crate::placing;
+use crate::rooms::{sides, Rooms};
 use std::io::{self, Write};
 
 /// Refusals: the hue count, the chroma, the ring's length, the spacing, an entry, the work buffer.
@@ -49,7 +50,7 @@ pub fn refusal(rows: &[&[f32]], call: Call) -> Option<u32> {
         (BAD_LENGTH, alike && (1..=720).contains(&n)),
         (BAD_SPACING, 1 <= step && step <= n),
         (BAD_ENTRY, rows.concat().into_iter().all(takes)),
-        (BAD_WORK, 3 * n <= call.room),
+        (BAD_WORK, n <= call.room),
     ];
     asked
         .iter()
@@ -162,6 +163,7 @@ pub struct Placements<'a> {
     out: &'a mut dyn Write,
     entries: [f32; STORED],
     length: usize,
+    rooms: Rooms,
     placed: u64,
     nowhere: u64,
     refused: u64,
@@ -178,6 +180,7 @@ impl Placements<'_> {
             out,
             entries: [0.0; STORED],
             length: 0,
+            rooms: Rooms::InTurn(0),
             placed: 0,
             nowhere: 0,
             refused: 0,
@@ -253,10 +256,48 @@ impl Placements<'_> {
         line(self.out, "place", &place_words(call, &answer))
     }
 
-    /// Writes a placement with a work buffer just long enough.
+    /// Writes a placement with the rooms that a fixed list gives it; one that is too short stays.
+    pub fn in_turn(&mut self, call: Call) -> io::Result<()> {
+        let n = self.length;
+        if call.room < n {
+            return self.place(call);
+        }
+        let with = |room: usize| Call { room, ..call };
+        let refused = sides(n).map(|room| refusal(&[self.ring()], with(room)));
+        let rooms = self.rooms.next(n, refused).into_iter();
+        rooms.map(with).try_for_each(|call| self.place(call))
+    }
+
+    /// Writes a placement with the rooms that a fixed list gives it.
     pub fn at(&mut self, k: u32, step: u32, c: f32) -> io::Result<()> {
-        let room = 3 * self.length;
-        self.place(Call { k, step, c, room })
+        let room = self.length;
+        self.in_turn(Call { k, step, c, room })
+    }
+
+    /// Writes a placement whose hues are worked out by hand and must be these, or none.
+    pub fn must(
+        &mut self,
+        (k, step, c): (u32, u32, f32),
+        hues: Option<&[usize]>,
+    ) -> io::Result<()> {
+        let room = self.length;
+        let given = match answer(self.ring(), Call { k, step, c, room }) {
+            Answer::Placed(hues) => Some(hues),
+            Answer::Nowhere => None,
+            Answer::Refused(number) => panic!("refused by {number}"),
+        };
+        assert!(given.as_deref() == hues, "not what is worked out by hand");
+        self.at(k, step, c)
+    }
+
+    /// Writes a placement that is wrong on purpose.
+    pub fn wrong_place(
+        &mut self,
+        call: Call,
+        change: impl FnOnce(&mut Vec<u32>),
+    ) -> io::Result<()> {
+        let words = place_words(call, &answer(self.ring(), call));
+        wrong(self.out, "place", &words, change)
     }
 
     /// Writes a placement with a work buffer just long enough, wrong on purpose.
@@ -265,15 +306,13 @@ impl Placements<'_> {
         (k, step, c): (u32, u32, f32),
         change: impl FnOnce(&mut Vec<u32>),
     ) -> io::Result<()> {
-        let room = 3 * self.length;
-        let call = Call { k, step, c, room };
-        let words = place_words(call, &answer(self.ring(), call));
-        wrong(self.out, "place", &words, change)
+        let room = self.length;
+        self.wrong_place(Call { k, step, c, room }, change)
     }
 
-    /// Every call on the ring at these chromas.
+    /// Every call on the ring at these chromas, with a work buffer just long enough.
     fn calls(&self, chromas: &[f32]) -> Vec<Call> {
-        let room = 3 * self.length;
+        let room = self.length;
         let mut calls = vec![];
         for k in 1..=16 {
             for step in 1..=self.length as u32 {

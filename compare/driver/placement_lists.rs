@@ -3,6 +3,7 @@
 use crate::lists::step as float_step;
 use crate::placement::{Call, Placements, STORED};
 use crate::random::Random;
+use crate::rooms::{at_random, edges};
 use crate::wrong_lists;
 use std::io::{self, Write};
 
@@ -39,6 +40,7 @@ pub fn fixed(out: &mut dyn Write) -> io::Result<()> {
     let mut list = Placements::begin(out, "placement-list")?;
     let mut random = Random(7);
     marked(&mut list)?;
+    one_lap(&mut list)?;
     steps(&mut list)?;
     refusals(&mut list)?;
     boundaries(&mut list)?;
@@ -49,7 +51,7 @@ pub fn fixed(out: &mut dyn Write) -> io::Result<()> {
     for n in [
         9, 16, 23, 24, 47, 100, 180, 250, 360, 500, 600, 719, 720, 720,
     ] {
-        random_ring(&mut list, &mut random, n, 60)?;
+        random_ring(&mut list, &mut random, (n, 60), Placements::in_turn)?;
     }
     wrong_lists::placements(&mut list)?;
     list.end()
@@ -70,7 +72,7 @@ pub fn many(out: &mut dyn Write, seed: u64, count: usize) -> io::Result<()> {
     while left > 0 {
         let n = (count - left) / 32 % 720 + 1;
         let some = left.min(32);
-        random_ring(&mut list, &mut random, n, some)?;
+        random_ring(&mut list, &mut random, (n, some), Placements::place)?;
         left -= some;
     }
     list.end()
@@ -93,6 +95,26 @@ fn marked(list: &mut Placements) -> io::Result<()> {
     list.set(&[50.0, 50.0, 0.0, 0.0, 0.0, 50.0, 0.0, 0.0])?;
     list.at(2, 4, 40.0)?;
     [1, 2, 7, 16].into_iter().try_for_each(|k| list.step(k))
+}
+
+/// Writes placements on a ring of 8 with work buffers at and beside the edge, and on small rings on
+/// which the indices that are tried go all the way round.
+fn one_lap(list: &mut Placements) -> io::Result<()> {
+    list.set(&MARKED)?;
+    for room in edges(MARKED.len()) {
+        list.place(Call {
+            k: 2,
+            step: 3,
+            c: 40.0,
+            room,
+        })?;
+    }
+    list.set(&[0.0, 50.0, 0.0, 50.0])?;
+    list.must((3, 1, 40.0), None)?;
+    list.must((2, 1, 40.0), Some(&[1, 3]))?;
+    list.set(&[50.0, 0.0])?;
+    list.must((2, 1, 40.0), None)?;
+    list.must((1, 1, 40.0), Some(&[0]))
 }
 
 /// Writes the steps for all hue counts, and for some that are refused.
@@ -131,7 +153,7 @@ fn faults(list: &mut Placements) -> io::Result<()> {
         k: 2,
         step: 3,
         c: 40.0,
-        room: 3 * n,
+        room: n,
     };
     let faults: [fn(&mut Call, usize); 8] = [
         |call, _| call.k = 0,
@@ -140,16 +162,16 @@ fn faults(list: &mut Placements) -> io::Result<()> {
         |call, _| call.c = -0.0,
         |call, _| call.step = 0,
         |call, n| call.step = n as u32 + 1,
-        |call, n| call.room = (3 * n).saturating_sub(1),
+        |call, n| call.room = n.saturating_sub(1),
         |call, _| call.room = 0,
     ];
-    list.place(fine)?;
+    list.in_turn(fine)?;
     for (i, first) in faults.iter().enumerate() {
         for second in &faults[i..] {
             let mut call = fine;
             first(&mut call, n);
             second(&mut call, n);
-            list.place(call)?;
+            list.in_turn(call)?;
         }
     }
     Ok(())
@@ -166,8 +188,7 @@ fn boundaries(list: &mut Placements) -> io::Result<()> {
                 list.at(k, step, 60.0)?;
             }
         }
-        let need = 3 * n as usize;
-        for room in [0, 1, need / 3 * 2, need.saturating_sub(1), need, need + 1] {
+        for room in edges(n as usize) {
             for k in [1, 2] {
                 list.place(Call {
                     k,
@@ -316,12 +337,12 @@ pub fn runs(random: &mut Random, n: usize) -> Vec<f32> {
         .collect()
 }
 
-/// Writes a random ring of this length with this many placements.
-fn random_ring(
-    list: &mut Placements,
+/// Writes a random ring of this length with this many placements, each of them by `write`.
+fn random_ring<'a>(
+    list: &mut Placements<'a>,
     random: &mut Random,
-    n: usize,
-    some: usize,
+    (n, some): (usize, usize),
+    write: fn(&mut Placements<'a>, Call) -> io::Result<()>,
 ) -> io::Result<()> {
     let (k, step) = tight(random, n);
     let c = random.between(1.0, 190.0);
@@ -339,7 +360,7 @@ fn random_ring(
             (call.k, call.step, call.c) = (k as u32, step as u32, c);
             nudge(random, &mut call, n);
         }
-        list.place(call)?;
+        write(list, call)?;
     }
     Ok(())
 }
@@ -365,13 +386,13 @@ fn random_call(random: &mut Random, ring: &[f32]) -> Call {
         k: k as u32,
         step: step as u32,
         c: random.pick(ring),
-        room: 3 * n + random.below(4),
+        room: at_random(random, n),
     };
     match random.below(64) {
         0 => call.k = random.pick(&COUNTS),
         1 => call.c = random.pick(&REFUSED),
         2 => call.step = random.pick(&[0, n as u32 + 1, u32::MAX]),
-        3 => call.room = random.below(3 * n),
+        3 => call.room = random.below(n),
         4..8 => call.c = random.near(call.c),
         8..24 => call.step = random.below(n) as u32 + 1,
         24..40 => call.c = random.between(0.0, 200.0),

@@ -4,6 +4,7 @@ use crate::cases::{head, line, word, wrong};
 use crate::chroma::{l_of, max_chroma};
 use crate::gamut::digest;
 use crate::job::{self, Job, ROOM};
+use crate::rooms::{sides, Rooms};
 use crate::standins::{directions, DIRECTIONS, LEVELS};
 use std::io::{self, Write};
 
@@ -49,6 +50,7 @@ pub struct Searches<'a> {
     panel: Vec<f32>,
     entries: Vec<f32>,
     length: usize,
+    rooms: Rooms,
     job: Job,
     accepted: u64,
     refused: u64,
@@ -58,8 +60,12 @@ pub struct Searches<'a> {
 }
 
 impl Searches<'_> {
-    /// Begins a list made by this command: its head and the directions.
-    pub fn begin<'a>(out: &'a mut dyn Write, command: &str) -> io::Result<Searches<'a>> {
+    /// Begins a list made by this command, with these rooms: its head and the directions.
+    pub fn begin<'a>(
+        out: &'a mut dyn Write,
+        command: &str,
+        rooms: Rooms,
+    ) -> io::Result<Searches<'a>> {
         let with = "the stand-ins and the refusals";
         head(out, "Search", "xtask/src/palette.rs", with, command)?;
         let (cos, sin) = directions();
@@ -71,6 +77,7 @@ impl Searches<'_> {
             panel: panel(&cos, &sin),
             entries: vec![0.0; STORED],
             length: 0,
+            rooms,
             job: Job {
                 k: 0,
                 gap: 0.0,
@@ -90,6 +97,11 @@ impl Searches<'_> {
     /// Where the list is written, for lines that neither set the table nor use the job.
     pub fn out(&mut self) -> &mut dyn Write {
         self.out
+    }
+
+    /// The rooms of the calls that do not choose one for its own sake.
+    pub fn rooms(&mut self) -> &mut Rooms {
+        &mut self.rooms
     }
 
     /// The table.
@@ -189,6 +201,14 @@ impl Searches<'_> {
         Ok(())
     }
 
+    /// Sets the job that the next call is lent, unless it is this one.
+    fn lend_again(&mut self, job: Job) -> io::Result<()> {
+        if self.job.words() == job.words() {
+            return Ok(());
+        }
+        self.lend(job)
+    }
+
     /// Takes the answer to a call, and gives the words for it with this field.
     fn answered(&mut self, answer: Result<Job, u32>, field: usize) -> Vec<u32> {
         match answer {
@@ -234,13 +254,13 @@ impl Searches<'_> {
         self.wrong("step", &[room as u32], (answer, 3), change)
     }
 
-    /// Writes so many steps in one line that are wrong on purpose.
+    /// Writes so many steps in one line, with a work buffer just long enough, wrong on purpose.
     pub fn wrong_steps(
         &mut self,
         count: usize,
         change: impl FnOnce(&mut Vec<u32>),
     ) -> io::Result<()> {
-        let (answers, words) = self.stepped(count);
+        let (answers, words) = self.stepped(count, ROOM);
         for answer in answers {
             self.job = answer.unwrap_or(self.job);
         }
@@ -266,40 +286,64 @@ impl Searches<'_> {
         line(self.out, "start", &words)
     }
 
-    /// Writes a step in a work buffer of this length.
-    pub fn step_in(&mut self, room: usize) -> io::Result<()> {
-        let answer = job::step(self.table(), room, self.job);
-        let mut words = vec![room as u32];
-        words.extend(self.answered(answer, 3));
-        line(self.out, "step", &words)
-    }
-
-    /// Writes a step in a work buffer just long enough.
-    pub fn step(&mut self) -> io::Result<()> {
-        self.step_in(ROOM)
-    }
-
-    /// Writes so many steps in one line, with the digest of the answers and the jobs after them.
-    pub fn steps(&mut self, count: usize) -> io::Result<()> {
-        let (answers, words) = self.stepped(count);
-        for answer in answers {
-            self.answered(answer, 3);
+    /// Writes a step in a work buffer of each of these lengths; each is lent the same job.
+    pub fn step_in(&mut self, rooms: &[usize]) -> io::Result<()> {
+        let lent = self.job;
+        for room in rooms {
+            self.lend_again(lent)?;
+            let answer = job::step(self.table(), *room, lent);
+            let mut words = vec![*room as u32];
+            words.extend(self.answered(answer, 3));
+            line(self.out, "step", &words)?;
         }
-        line(self.out, "steps", &words)
+        Ok(())
     }
 
-    /// The answers to so many steps, and the words of all in one line.
-    fn stepped(&self, count: usize) -> (Vec<Result<Job, u32>>, [u32; 4]) {
+    /// The rooms that the list gives the next step.
+    fn step_rooms(&mut self) -> Vec<usize> {
+        let refused = sides(ROOM).map(|room| job::step_refusal(self.table(), room, &self.job));
+        self.rooms.next(ROOM, refused)
+    }
+
+    /// Writes a step with the rooms that the list gives it.
+    pub fn step(&mut self) -> io::Result<()> {
+        let rooms = self.step_rooms();
+        self.step_in(&rooms)
+    }
+
+    /// Writes so many steps in one line, with the digest of the answers and the jobs after them, in
+    /// a work buffer of each of these lengths; the first of each is lent the same job.
+    pub fn steps_in(&mut self, count: usize, rooms: &[usize]) -> io::Result<()> {
+        let lent = self.job;
+        for room in rooms {
+            self.lend_again(lent)?;
+            let (answers, words) = self.stepped(count, *room);
+            for answer in answers {
+                self.answered(answer, 3);
+            }
+            line(self.out, "steps", &words)?;
+        }
+        Ok(())
+    }
+
+    /// Writes so many steps in one line with the rooms that the list gives the first of them.
+    pub fn steps(&mut self, count: usize) -> io::Result<()> {
+        let rooms = self.step_rooms();
+        self.steps_in(count, &rooms)
+    }
+
+    /// The answers to so many steps in a work buffer of this length, and the words of their line.
+    fn stepped(&self, count: usize, room: usize) -> (Vec<Result<Job, u32>>, [u32; 4]) {
         let (mut job, mut answers, mut bytes) = (self.job, vec![], vec![]);
         for _ in 0..count {
-            let answer = job::step(self.table(), ROOM, job);
+            let answer = job::step(self.table(), room, job);
             job = answer.unwrap_or(job);
             bytes.push(answer.err().unwrap_or(0) as u8);
             bytes.extend(job.bytes());
             answers.push(answer);
         }
         let sum = digest(bytes.into_iter());
-        let words = [count as u32, ROOM as u32, (sum >> 32) as u32, sum as u32];
+        let words = [count as u32, room as u32, (sum >> 32) as u32, sum as u32];
         (answers, words)
     }
 
@@ -327,24 +371,34 @@ impl Searches<'_> {
         again
     }
 
-    /// Writes a whole search in a work buffer of this length.
-    pub fn search_in(&mut self, k: u32, gap: f32, room: usize) -> io::Result<()> {
-        let answer = job::search(k, gap, self.table(), room);
-        if let Ok(job) = answer {
-            self.found += u64::from(job.best.is_some());
-            self.nothing += u64::from(job.best.is_none());
-            if job.levels <= FEW_LEVELS {
-                self.again += u64::from(self.reached_again(job));
-            }
+    /// Counts a whole search by the job after it.
+    fn count(&mut self, job: Job) {
+        self.found += u64::from(job.best.is_some());
+        self.nothing += u64::from(job.best.is_none());
+        if job.levels <= FEW_LEVELS {
+            self.again += u64::from(self.reached_again(job));
         }
-        let mut words = vec![k, word(gap), room as u32];
-        words.extend(self.answered(answer, 3));
-        line(self.out, "search", &words)
     }
 
-    /// Writes a whole search in a work buffer just long enough.
+    /// Writes a whole search in a work buffer of each of these lengths.
+    pub fn search_in(&mut self, k: u32, gap: f32, rooms: &[usize]) -> io::Result<()> {
+        for room in rooms {
+            let answer = job::search(k, gap, self.table(), *room);
+            if let Ok(job) = answer {
+                self.count(job);
+            }
+            let mut words = vec![k, word(gap), *room as u32];
+            words.extend(self.answered(answer, 3));
+            line(self.out, "search", &words)?;
+        }
+        Ok(())
+    }
+
+    /// Writes a whole search with the rooms that the list gives it.
     pub fn search(&mut self, k: u32, gap: f32) -> io::Result<()> {
-        self.search_in(k, gap, ROOM)
+        let refused = sides(ROOM).map(|room| job::begun(k, gap, self.table(), room).err());
+        let rooms = self.rooms.next(ROOM, refused);
+        self.search_in(k, gap, &rooms)
     }
 
     /// Writes how many answers of each kind the list holds.

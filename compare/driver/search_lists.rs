@@ -6,6 +6,7 @@ use crate::lists::step as float_step;
 use crate::orientation_lists;
 use crate::placement_lists::{EDGES, REFUSED};
 use crate::random::Random;
+use crate::rooms::{edges, laps, Rooms};
 use crate::search::{Searches, STORED};
 use crate::standins::{DIRECTIONS, LEVELS};
 use crate::wrong_lists;
@@ -56,7 +57,7 @@ const BAD_CHROMAS: [f32; 8] = [
 
 /// Writes the fixed list.
 pub fn fixed(out: &mut dyn Write) -> io::Result<()> {
-    let mut list = Searches::begin(out, "search-list")?;
+    let mut list = Searches::begin(out, "search-list", Rooms::InTurn(0))?;
     let mut random = Random(13);
     starts(&mut list)?;
     lengths(&mut list)?;
@@ -86,7 +87,8 @@ pub fn fixed(out: &mut dyn Write) -> io::Result<()> {
 /// Writes a random list of at least this many calls, 24 or more over the same table, of which
 /// the levels go from 1 to 12 in turn.
 pub fn many(out: &mut dyn Write, seed: u64, count: usize) -> io::Result<()> {
-    let mut list = Searches::begin(out, &format!("search-many {seed} {count}"))?;
+    let command = format!("search-many {seed} {count}");
+    let mut list = Searches::begin(out, &command, Rooms::of_seed(seed))?;
     let mut random = Random(seed);
     let mut left = count;
     while left > 0 {
@@ -314,9 +316,16 @@ fn orders(list: &mut Searches) -> io::Result<()> {
         if has(2) {
             list.resize([4 * DIRECTIONS - 1, 5 * DIRECTIONS][set % 2])?;
         }
-        list.step_in(if has(3) { ROOM - 1 - set } else { ROOM })?;
+        if has(3) {
+            list.step_in(&[ROOM - 1 - set])?;
+        } else {
+            list.step()?;
+        }
     }
-    list.more(5, &[50.0])
+    list.resize(4 * DIRECTIONS)?;
+    list.more(5, &[50.0])?;
+    list.lend(MIDST)?;
+    list.step_in(&edges(ROOM))
 }
 
 /// Writes steps at pairs that are too close together: what is wrong with their rows is passed
@@ -332,7 +341,7 @@ fn passed_over(list: &mut Searches) -> io::Result<()> {
             list.lend(job)?;
             list.step()?;
             list.lend(job)?;
-            list.step_in(ROOM - 1)?;
+            list.step_in(&[ROOM - 1])?;
             list.resize(4 * DIRECTIONS + 1)?;
             list.step()?;
             list.resize(4 * DIRECTIONS)?;
@@ -359,15 +368,17 @@ fn searches_refused(list: &mut Searches) -> io::Result<()> {
         list.more(720, &[if has(3) { REFUSED[set % 8] } else { 50.0 }])?;
         let k = if has(0) { BAD_COUNTS[set % 4] } else { 2 };
         let gap = if has(1) { BAD_GAPS[set % 7] } else { 0.5 };
-        list.search_in(k, gap, if has(4) { ROOM - 1 - set } else { ROOM + set })?;
+        if has(4) {
+            list.search_in(k, gap, &[ROOM - 1 - set])?;
+        } else {
+            list.search(k, gap)?;
+        }
         list.step()?;
     }
     list.resize(4 * DIRECTIONS)?;
     list.more(720, &[50.0])?;
-    for room in [0, 1, 719, ROOM - 1, ROOM, 2400] {
-        list.search_in(2, 0.0, room)?;
-    }
-    Ok(())
+    list.search_in(2, 0.0, &edges(ROOM))?;
+    list.search_in(2, 0.0, &[2400])
 }
 
 /// Tables of rows of one value in which many pairs reach the best chroma, by its bits or but for
@@ -464,11 +475,13 @@ fn farthest(list: &mut Searches) -> io::Result<()> {
     list.run(8, 84.0)
 }
 
-/// Writes searches over the panel's own table, and one of them step by step with calls between.
+/// Writes searches over the panel's own table, and two of them step by step, one with other calls
+/// between. What takes long has one lap and three, and no room in turn.
 fn whole_panel(list: &mut Searches) -> io::Result<()> {
     list.panel(0, LEVELS)?;
+    let rooms = laps(ROOM);
     for k in 1..=16 {
-        list.search(k, 40.0)?;
+        list.search_in(k, 40.0, &rooms)?;
     }
     for (k, gap) in [
         (1, 0.0),
@@ -480,19 +493,19 @@ fn whole_panel(list: &mut Searches) -> io::Result<()> {
         (16, 4.0),
         (6, 83.0),
     ] {
-        list.search(k, gap)?;
+        list.search_in(k, gap, &rooms)?;
     }
     list.start(2, 40.0)?;
-    list.steps(10_000)?;
+    list.steps_in(10_000, &rooms)?;
     list.start(17, 40.0)?;
-    list.step_in(ROOM - 1)?;
+    list.step_in(&[ROOM - 1])?;
     list.search(2, 85.0)?;
-    list.steps(18_500)?;
+    list.steps_in(18_500, &rooms)?;
     for _ in 0..62 {
         list.step()?;
     }
     list.start(8, 40.0)?;
-    list.steps(LEVELS * LEVELS + 1)
+    list.steps_in(LEVELS * LEVELS + 1, &rooms)
 }
 
 /// How many kinds of random tables there are, and how many of them take few lines.
@@ -606,8 +619,8 @@ fn random_calls(list: &mut Searches, random: &mut Random, some: usize) -> io::Re
             4..7 => list.step()?,
             7 | 8 => list.steps(random.below(levels * levels + 3))?,
             9 => list.run(k, gap)?,
-            10 => list.step_in(random.below(ROOM))?,
-            11 => list.search_in(k, gap, random.below(ROOM))?,
+            10 => list.step_in(&[random.below(ROOM)])?,
+            11 => list.search_in(k, gap, &[random.below(ROOM)])?,
             12 => random_damage(list, random)?,
             13 => spoilt(list, random, k, gap)?,
             _ => list.search(k, gap)?,

@@ -3,14 +3,14 @@
 
 use crate::cases::{word, List};
 use crate::gamut::{chroma_words, lightness_words, Lent};
-use crate::job::{Job, FLOOR, ROOM};
+use crate::job::{Job, BAD_WORK, FLOOR, ROOM};
 use crate::level_set::LevelSets;
 use crate::lists::step as float_step;
 use crate::orientation::Orientations;
 use crate::pair::Pairs;
 use crate::palette_lists::{design, printed_designs};
 use crate::palettes::{Design, Palettes};
-use crate::placement::Placements;
+use crate::placement::{Call, Placements};
 use crate::placement_lists::MARKED;
 use crate::search::Searches;
 use crate::search_lists::{flat, MIDST};
@@ -92,7 +92,7 @@ pub fn gamuts(list: &mut List) -> io::Result<()> {
 }
 
 /// Writes steps, placements and sweeps of which the number, the kind of the answer, the step, the
-/// first or the last hue or the digest is another.
+/// first or the last hue or the digest is another, and one as if two laps were too short.
 pub fn placements(list: &mut Placements) -> io::Result<()> {
     for k in [7, 17] {
         list.wrong_step(k, off(1))?;
@@ -107,6 +107,9 @@ pub fn placements(list: &mut Placements) -> io::Result<()> {
     list.wrong_at(none, put(4, 3))?;
     list.wrong_at(refused, put(4, 3))?;
     list.wrong_at(refused, put(4, 0))?;
+    let (k, step, c) = placed;
+    let room = 2 * MARKED.len();
+    list.wrong_place(Call { k, step, c, room }, last(4, BAD_WORK))?;
     list.set(&[60.0; 16])?;
     for place in [5, 20] {
         list.wrong_at((16, 1, 60.0), off(place))?;
@@ -119,7 +122,7 @@ pub fn placements(list: &mut Placements) -> io::Result<()> {
 }
 
 /// Writes pairs of which the number, the kind of the answer, the chroma or the first or the last
-/// hue is another.
+/// hue is another, and one as if two laps were too short.
 pub fn pairs(list: &mut Pairs) -> io::Result<()> {
     // A chroma and hues that are all zero leave the kind of the answer to tell them.
     list.both([&[0.0; 8]; 2])?;
@@ -135,6 +138,9 @@ pub fn pairs(list: &mut Pairs) -> io::Result<()> {
     list.wrong_from(none, put(4, 3))?;
     list.wrong_from(refused, put(4, 3))?;
     list.wrong_from(refused, put(4, 0))?;
+    let (c, k, step) = found;
+    let room = 2 * list.rows()[0].len();
+    list.wrong_best(Call { k, step, c, room }, last(4, BAD_WORK))?;
     list.both([&[60.0; 16], &[61.5; 16]])?;
     for place in [6, 21] {
         list.wrong_from((FLOOR, 16, 1), off(place))?;
@@ -199,7 +205,7 @@ fn wrong_starts(list: &mut Searches) -> io::Result<()> {
 }
 
 /// Writes steps: at a pair that is better than the best so far, at one too close together, refused
-/// ones, and some by their digest.
+/// ones, some by their digest, and one as if two laps were too short.
 fn wrong_steps(list: &mut Searches) -> io::Result<()> {
     let better = Job {
         position: 3,
@@ -230,7 +236,8 @@ fn wrong_steps(list: &mut Searches) -> io::Result<()> {
     for place in [2, 3] {
         list.wrong_steps(5, off(place))?;
     }
-    Ok(())
+    list.lend(better)?;
+    list.wrong_step(2 * ROOM, last(1, BAD_WORK))
 }
 
 /// Writes calls with a hue fixed of which the number, the kind of the answer, the chroma, a level or
@@ -259,7 +266,7 @@ pub fn orientations(list: &mut Orientations) -> io::Result<()> {
 }
 
 /// Writes calls with a list of levels of which the number, the kind of the answer, the chroma or the
-/// first or the last hue is another.
+/// first or the last hue is another, and one as if two laps were too short.
 pub fn level_sets(list: &mut LevelSets) -> io::Result<()> {
     list.tables.set(&flat(4, 50.0))?;
     list.name(&[3, 0])?;
@@ -273,6 +280,7 @@ pub fn level_sets(list: &mut LevelSets) -> io::Result<()> {
     list.wrong(found, put(2, 18))?;
     list.wrong(found, last(2, 0))?;
     list.wrong(found, last(2, 18))?;
+    list.wrong((16, 2 * ROOM), last(2, BAD_WORK))?;
     list.wrong(refused, put(2, 18))?;
     list.wrong(refused, put(2, 0))?;
     list.wrong(refused, |words| {

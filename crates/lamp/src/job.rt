@@ -60,7 +60,7 @@ fn numbered(outcome: Outcome) -> Searched {
 
 // Takes one step of a job.
 fn take_step(table: &[f32], job: Job) -> Searched {
-    let mut work = [0u16; 2160];
+    let mut work = [0u16; 720];
     numbered(search::step(table, &mut work, job))
 }
 

@@ -43,7 +43,7 @@ the ring's length is not from 1 to 720
 the spacing is 0 or above the ring's length
 the table is not 720 entries for each of 1 to 169 levels
 an entry of the table is not from 0 to 200
-the work buffer is shorter than 3 times the ring
+the work buffer is shorter than the ring
 the directions are not 720 with components from -1 to 1
 the row to fill is not 720 long
 a level index is above 168

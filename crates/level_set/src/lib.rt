@@ -52,7 +52,7 @@ fn check(table: &[f32], levels: &[usize], room: usize) -> Checked
     if !gamut::takes_table(table) {
         return Checked::Wrong(Refusal::TableLength);
     }
-    if room < 3 * Gamut::HUES {
+    if room < Gamut::HUES {
         return Checked::Wrong(Refusal::WorkBuffer);
     }
     if levels.len() < 1 || 8 < levels.len() {

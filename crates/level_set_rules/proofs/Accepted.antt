@@ -67,6 +67,7 @@ module _ (k : ℕ) (t : List Float) (levels : List ℕ) (room : ℕ) where
   over = setOver k (leastRow (rowsAt t levels))
 
   pub in-words : hueCountTaken k ≡ true → AllPass named-checks → SetTaken k t levels room
+  unfolding workNeeded
   in-words one p =
       let l = levelled t (p .0) in
       record {
@@ -89,7 +90,7 @@ module _ (k : ℕ) (t : List Float) (levels : List ℕ) (room : ℕ) where
       same x h = cc
 
   pub set-given : SetTaken k t levels room → setSays k t levels room ≡ value over
-  unfolding setSays setChecked namedChecked
+  unfolding setSays setChecked namedChecked workNeeded
   set-given h =
       said set-checks (value over) (
         count-taken k (h .hue-count),

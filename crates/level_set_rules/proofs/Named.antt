@@ -10,7 +10,7 @@ use lib.IntN.{pos}
 use lib.Ieee.{Float, binary32, isNan, ofInt, lt}
 use lib.Ieee.Fits.{ofInt-fits}
 use lib.ListN.{length}
-use borrow.Author.Tests.{le-leb, eq-eqb}
+use borrow.Author.Tests.{eq-eqb}
 use Rattle.limits.specs.Answers.{value}
 use Rattle.limits.specs.Taken.{f32Of, chromaTaken, upTo, signClear, signBit}
 use Rattle.limits.specs.Each.{Each, F32}
@@ -20,6 +20,7 @@ use Rattle.gamut.specs.Table.{levelsIn, rowAt}
 use Rattle.gamut.proofs.Table.{row-long, row-f32}
 use Rattle.placement_rules.specs.Placing.{stepFor, workNeeded}
 use Rattle.placement_rules.proofs.Checking.{checks}
+use Rattle.placement_rules.proofs.Room.{enough}
 use Rattle.placement_rules.proofs.Step.{step-taken}
 use Rattle.pair_rules.specs.Rows.{ringLength, leastRow}
 use Rattle.pair_rules.specs.Pair.{bestOver, alike, lengthsTaken, entriesTaken, rowsChecked, rowsSay}
@@ -37,10 +38,10 @@ unfolding chromaTaken upTo signClear signBit isNan ofInt lt
 zero-taken = refl
 
 -- ---- any rows of 720
-pub rows-say : (k : ℕ) (rows : List (List Float)) (room : ℕ) → (1 ≤ k) × (k ≤ 16) → ringLength rows ≡ 720 → lengthsTaken rows ≡ true → entriesTaken rows ≡ true → workNeeded 720 ≤ room
+pub rows-say : (k : ℕ) (rows : List (List Float)) (room : ℕ) → (1 ≤ k) × (k ≤ 16) → ringLength rows ≡ 720 → lengthsTaken rows ≡ true → entriesTaken rows ≡ true → 720 ≤ room
     → rowsSay k (stepFor k) (f32Of 0) rows room ≡ value (bestOver k (stepFor k) (f32Of 0) (leastRow rows))
 unfolding rowsSay rowsChecked
-rows-say k rows room hues ring lengths entries enough =
+rows-say k rows room hues ring lengths entries long =
     said (checks k (stepFor k) (f32Of 0) (ringLength rows) (lengthsTaken rows) (entriesTaken rows) room) (value (bestOver k (stepFor k) (f32Of 0) (leastRow rows)))
     (count-taken k hues, (zero-taken, (lengths, (spacing, (entries, (work, tt))))))
   where
@@ -48,7 +49,7 @@ rows-say k rows room hues ring lengths entries enough =
     spacing = rw ring (step-taken k (count-taken k hues))
 
     work : leb (workNeeded (ringLength rows)) room ≡ true
-    work = rw ring (le-leb (workNeeded 720) room enough)
+    work = rw ring (enough 720 room long)
 
 -- ---- the rows named
 module _ (t : List Float) (long : length t ≡ levelsIn t * 720) where

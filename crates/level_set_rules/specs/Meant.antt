@@ -9,7 +9,6 @@ use lib.ListN.{length}
 use Rattle.limits.specs.Taken.{f32Of, entryTaken}
 use Rattle.limits.specs.Each.{Each}
 use Rattle.gamut.specs.Table.{levelsIn}
-use Rattle.placement_rules.specs.Placing.{workNeeded}
 use Rattle.pair_rules.specs.Rows.{valueAt}
 use Rattle.level_set_rules.specs.Set.{rowsAt}
 
@@ -43,7 +42,7 @@ pub record SetTaken (k : ℕ) (t : List Float) (levels : List ℕ) (room : ℕ) 
   pub hue-count : (1 ≤ k) × (k ≤ 16)
   pub whole-levels : length t ≡ levelsIn t * 720
   pub levels-in : (1 ≤ levelsIn t) × (levelsIn t ≤ 169)
-  pub room-enough : workNeeded 720 ≤ room
+  pub room-enough : 720 ≤ room
   pub listed : Listed levels
   pub within : Each (λ l. l < levelsIn t) levels
   pub entries : Each (Each (λ x. entryTaken x ≡ true)) (rowsAt t levels)

@@ -21,7 +21,7 @@ pub enum Refusal {
     TableLength,
     // 7: an entry read that is NaN, has its sign bit set, or exceeds 200
     Entry,
-    // 8: work buffer shorter than 3 × ring length
+    // 8: work buffer shorter than one ring length
     WorkBuffer,
     // 9: cosine or sine slice not 720 long, or a component NaN or outside -1 to 1
     Directions,

@@ -23,14 +23,14 @@ fn nothing() -> Chosen
 }
 
 // The first refusal that applies to a pair, of 1, 3, 4, 5, 7 and 8. Rows of unequal length are refused as a ring without hues
-// is. No ring that is taken needs more room than 2160, so of the second row it is the entries alone that are left to be checked.
+// is. No ring that is taken needs more room than 720, so of the second row it is the entries alone that are left to be checked.
 fn check(a: &[f32], b: &[f32], floor: f32, k: usize, step: usize, room: usize) -> Checked
     ensures { λ r. ⌜ checkSaid r ≡ rowsChecked k step floor (now (a .entry) ∷ now (b .entry) ∷ []) room (value tt) ⌝ }
 {
     if a.len() != b.len() {
         return placement_checks::check(&a[0..0], floor, k, step, room);
     }
-    let second = placement_checks::check(b, floor, k, step, 2160);
+    let second = placement_checks::check(b, floor, k, step, 720);
     match second {
         Checked::Wrong(why) => Checked::Wrong(why),
         Checked::Fine => placement_checks::check(a, floor, k, step, room),

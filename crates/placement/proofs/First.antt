@@ -1,20 +1,21 @@
--- The starts tried one after the other, and what an answer says of the start tried. Assumes nothing.
-use mathlib.Core.Path.{_≡_, refl, sym, ap, _∙_, subst}
-use mathlib.Core.Bool.{Bool, true, false}
+-- The starts tried one after the other, what an answer says of the start tried, and that nothing is placed where no index is allowed. Assumes nothing.
+use mathlib.Core.Path.{_≡_, refl, sym, ap, _∙_}
+use mathlib.Core.Bool.{true, false}
 use mathlib.Core.List.{List}
-use Prim.Native.Nat.{ℕ, zero, suc, _+_, _-_, _*_, _≤_, _<_}
+use Prim.Native.Nat.{ℕ, suc, _+_, _-_, _*_, _≤_, _<_}
 use native.Mathlib.Omega.{arith}
 use lib.Ieee.{Float}
-use lib.ListN.{length}
-use Rattle.limits.specs.Answers.{Said, value, refused}
+use lib.ListN.{length, getD}
+use Rattle.limits.specs.Answers.{value}
 use Rattle.limits.proofs.Floats.{never}
 use Rattle.placement_rules.specs.declared.Answer.{Answer}
 use Rattle.placement_rules.specs.declared.Answer.the-variants.{Placed, Nowhere, Refused}
-use Rattle.placement_rules.specs.Ring.{Places, nowhere, placed, orElse, fromStart, firstFrom, reduced, placement}
+use Rattle.placement_rules.specs.Ring.{Places, nowhere, placed, orElse, earliest, fromStart, firstFrom, reduced, placement}
 use Rattle.placement_rules.specs.Placing.{allowedAt, sixteen, answers, isPlaced}
 use Rattle.placement.specs.Inner.{Asked}
 use Rattle.placement_rules.proofs.Chain.{Some}
-use Rattle.placement_rules.proofs.Laws.{few-starts}
+use Rattle.placement_rules.proofs.Earliest.{first}
+use Rattle.placement_rules.proofs.Laws.{few-starts, sound}
 use Rattle.placement_rules.proofs.Allowed.{round}
 
 -- ---- an answer that gives places
@@ -72,3 +73,16 @@ module _ (row : List Float) (c : Float) (k step : ℕ) (asked : Asked row k step
         let n : starts - s ≡ 0 = omega arith in
         let e : nowhere ≡ firstFrom try starts 0 = rw n at so-far in
         all-starts ∙ sym (ap (reduced (length row)) e)
+
+  -- ---- where no index is allowed
+  pub none-allowed : length row ≤ earliest (allowedAt row c) (length row) 0 → placement (allowedAt row c) (length row) k step ≡ nowhere
+  none-allowed h = go (placement (allowedAt row c) (length row) k step) refl
+    where
+      go : (p : Places) → placement (allowedAt row c) (length row) k step ≡ p → p ≡ nowhere
+      go nowhere e = refl
+      go (placed is) e =
+          let s = sound (allowedAt row c) (length row) k step (round row c) (asked .some-hue) (asked .some-step) (asked .within) is e in
+          let i = getD is 0 0 in
+          let u : i < length row = s .within 0 (asked .some-hue) in
+          let l : earliest (allowedAt row c) (length row) 0 ≤ i = first (allowedAt row c) (length row) 0 i (omega arith) (omega arith) (s .allowed 0 (asked .some-hue)) in
+          absurd (omega arith)

@@ -6,9 +6,9 @@ ghost use mathlib.Core.Path.{_≡_};
 ghost use Prim.Native.Nat.{ℕ, _+_, _%_, _≤_, _<_};
 ghost use lib.ListN.{length};
 ghost use Rattle.limits.specs.Answers.{refused};
-ghost use Rattle.placement_rules.specs.Ring.{nowhere, reduced, fromStart, placement};
+ghost use Rattle.placement_rules.specs.Ring.{nowhere, earliest, reduced, fromStart, placement};
 ghost use Rattle.placement_rules.specs.Placing.{allowedAt, placementSays, huesBeside, answers, isPlaced};
-ghost use Rattle.placement.specs.Inner.{Asked, Stands, Filled, LapAsked, Gives};
+ghost use Rattle.placement.specs.Inner.{Asked, firstAllowed, Filled, FillAsked, Gives};
 
 // Nothing is placed.
 fn nowhere() -> Placement
@@ -20,22 +20,49 @@ fn nowhere() -> Placement
     }
 }
 
-// Fills one lap of the table of earliest allowed indices, from its top, by the earliest allowed index above it, 65535 if there
-// is none. The earliest allowed index from the lap's first on is handed back.
-fn fill_lap(m: &[f32], c: f32, base: usize, last: u16, work: &mut [u16]) -> u16
-    requires { ⌜ LapAsked (now m) c base last (now work) ⌝ }
-    ensures { λ r. ⌜ (Filled (now (m .entry)) c base (now (work .exit))) × (Stands (now (m .entry)) c base r) ⌝ }
+// The ring's first allowed index, 65535 if there is none.
+fn first_allowed(m: &[f32], c: f32) -> u16
+    requires { ⌜ length (now m) ≤ 720 ⌝ }
+    ensures { λ r. ⌜ r ≡ firstAllowed (now (m .entry)) c ⌝ }
 {
-    let mut seen = last;
-    let mut i = m.len();
+    let mut i = 0;
+    while i < m.len() {
+        if c <= m[i] {
+            return i as u16;
+        }
+        i += 1;
+    }
+    65535
+}
+
+// Fills the table of earliest allowed indices, one lap from its top. After the last allowed index comes the first, one length on.
+fn fill(m: &[f32], c: f32, first: u16, work: &mut [u16])
+    requires { ⌜ FillAsked (now m) c first (now work) ⌝ }
+    ensures { λ _. ⌜ Filled (now (m .entry)) c 0 (now (work .exit)) ⌝ }
+{
+    let n = m.len();
+    let mut seen = n as u16 + first;
+    let mut i = n;
     while 0 < i {
         i -= 1;
         if c <= m[i] {
-            seen = (base + i) as u16;
+            seen = i as u16;
         }
-        work[base + i] = seen;
+        work[i] = seen;
     }
-    seen
+}
+
+// The earliest allowed index from an index of the first or the second lap on, by the table.
+fn ahead(m: &[f32], c: f32, next: &[u16], from: usize) -> usize
+    requires { ⌜ (length (now m) ≤ 720) × (Filled (now m) c 0 (now next) × (from < length (now m) + length (now m))) ⌝ }
+    ensures { λ r. ⌜ r ≡ earliest (allowedAt (now (m .entry)) c) (length (now (m .entry))) from ⌝ }
+{
+    let n = m.len();
+    if from < n {
+        next[from] as usize
+    } else {
+        n + next[from - n] as usize
+    }
 }
 
 // An index of the second lap brought down to the first.
@@ -65,7 +92,7 @@ fn place_from(m: &[f32], c: f32, next: &[u16], k: usize, step: usize, start: usi
         if stop <= from {
             return nowhere();
         }
-        let j = next[from] as usize;
+        let j = ahead(m, c, next, from);
         if stop <= j {
             return nowhere();
         }
@@ -113,12 +140,14 @@ pub fn is_placed(answer: Answer) -> bool
 
 // The placement on a ring whose arguments are taken.
 fn place(m: &[f32], c: f32, k: usize, step: usize, work: &mut [u16]) -> Placement
-    requires { ⌜ Asked (now m) k step × (length (now m) + length (now m) ≤ length (now work)) ⌝ }
+    requires { ⌜ Asked (now m) k step × (length (now m) ≤ length (now work)) ⌝ }
     ensures { λ r. ⌜ Gives r (placement (allowedAt (now (m .entry)) c) (length (now (m .entry))) k step) ⌝ }
 {
-    let n = m.len();
-    let last = fill_lap(m, c, n, 65535, work);
-    fill_lap(m, c, 0, last, work);
+    let first = first_allowed(m, c);
+    if first == 65535 {
+        return nowhere();
+    }
+    fill(m, c, first, work);
     first_start(m, c, work, k, step)
 }
 

@@ -92,12 +92,11 @@ fn with_counts(sum: Sum, m: &[f32], words: [u32; 24], count: usize, work: &mut [
     to
 }
 
-// The same, on a ring of this length and in a work buffer of three times that.
+// The same, on a ring of this length and in a work buffer as long.
 fn swept(sum: Sum, ring: [f32; 800], length: usize, words: [u32; 24], count: usize) -> Sum {
-    let mut work = [0u16; 2400];
+    let mut work = [0u16; 800];
     if length <= 800 {
-        let room = 3 * length;
-        let part = &mut work[0..room];
+        let part = &mut work[0..length];
         return with_counts(sum, &ring[0..length], words, count, part);
     }
     sum

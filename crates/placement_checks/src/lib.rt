@@ -61,7 +61,7 @@ pub fn check(m: &[f32], c: f32, k: usize, step: usize, room: usize) -> Checked
     if !limits::takes_entries(m) {
         return Checked::Wrong(Refusal::Entry);
     }
-    if room < 3 * n {
+    if room < n {
         return Checked::Wrong(Refusal::WorkBuffer);
     }
     Checked::Fine

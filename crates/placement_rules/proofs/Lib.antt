@@ -7,3 +7,4 @@ pub mod Checking
 pub mod Stored
 pub mod Step
 pub mod Round
+pub mod Room

@@ -1,5 +1,5 @@
 -- Document 01, "Hue ring", as a call: which arguments are refused by which number, what is handed out as sixteen indices, and the step for k. Definitions only.
-use Prim.Native.Nat.{ℕ, suc, _+_, _-_, _*_, _/_, _%_}
+use Prim.Native.Nat.{ℕ, suc, _+_, _-_, _/_, _%_}
 use mathlib.Core.Bool.{Bool, true, false, not, _&&_, cond}
 use mathlib.Core.List.{List, [], _∷_}
 use lib.Dec.{leb}
@@ -23,9 +23,9 @@ allowedAt row c i = le c (getD row (i % length row) nan)
 unfoldable pub stepFor : ℕ → ℕ
 stepFor k = (600 + (k - 1)) / k + 1
 
--- number 8: how long a work buffer must be
+-- number 8: how long a work buffer must be, one entry for each position of the ring
 unfoldable pub workNeeded : ℕ → ℕ
-workNeeded n = 3 * n
+workNeeded n = n
 
 -- indices stored one after the other from place t on
 unfoldable pub stores : List ℕ → ℕ → List ℕ → List ℕ

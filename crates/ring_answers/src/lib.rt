@@ -90,7 +90,7 @@ fn place(row: &[f32], n: usize, c: f32, k: usize, step: usize) -> Placement
     requires { ⌜ n ≤ length (now row) ⌝ }
     ensures { λ r. ⌜ answers (r .answer) (r .hues) ≡ placementSays k step c (take n (now (row .entry))) room ⌝ }
 {
-    let mut work = [0u16; 2160];
+    let mut work = [0u16; 720];
     placement::feasible(&row[0..n], c, k, step, &mut work)
 }
 

@@ -210,7 +210,7 @@ pub fn search(settings: Settings, table: &[f32], work: &mut [u16], job: Job) -> 
     match checked {
         Checked::Wrong(why) => refuse(why, job),
         Checked::Fine => {
-            if work.len() < 3 * Gamut::HUES {
+            if work.len() < Gamut::HUES {
                 return refuse(Refusal::WorkBuffer, job);
             }
             let levels = table.len() / Gamut::HUES;

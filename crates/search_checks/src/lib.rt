@@ -101,7 +101,7 @@ pub fn check_step(job: Job, length: usize, room: usize) -> Checked
     if length != levels * Gamut::HUES {
         return Checked::Wrong(Refusal::TableLength);
     }
-    if room < 3 * Gamut::HUES {
+    if room < Gamut::HUES {
         return Checked::Wrong(Refusal::WorkBuffer);
     }
     Checked::Fine

@@ -75,9 +75,10 @@ module _ (s : Settings) (t : List Float) where
     unfolding searchSays
     search-given h r = start-passing h (cond (leb (workNeeded 720) room) done (refused 8)) ∙ said (check (leb (workNeeded 720) room) 8 ∷ []) done (le-leb (workNeeded 720) room r, tt)
 
-    pub search-exactly : Accepted (searchSays s t room) ↔ (StartTaken s t × (workNeeded 720 ≤ room))
+    pub search-exactly : Accepted (searchSays s t room) ↔ (StartTaken s t × (720 ≤ room))
+    unfolding workNeeded
     search-exactly =
-        (search-only, λ (h : StartTaken s t × (workNeeded 720 ≤ room)). (stepsFrom (levelsIn t * levelsIn t) (begun s (levelsIn t)) t room, search-given (h .0) (h .1)))
+        (search-only, λ (h : StartTaken s t × (720 ≤ room)). (stepsFrom (levelsIn t * levelsIn t) (begun s (levelsIn t)) t room, search-given (h .0) (h .1)))
 
 -- ---- step
 module _ (j : Job) (t : List Float) (room : ℕ) where
@@ -104,7 +105,7 @@ module _ (j : Job) (t : List Float) (room : ℕ) where
   both-rows = every entryTaken (rowAt t dark) && every entryTaken (rowAt t light)
 
   pub step-only : Accepted (stepSays j t room) → StepTaken j t room
-  unfolding stepSays stepChecked searched
+  unfolding stepSays stepChecked searched workNeeded
   step-only a =
       let f = all-pass (step-checks j (length t) room) (searched j t dark light) (a .0) (a .1) in
       let p = step-passed j (length t) room (f .0) in
@@ -126,7 +127,7 @@ module _ (j : Job) (t : List Float) (room : ℕ) where
           go false e h = absurd (let z : _≡_ {A = ℕ} 0 1 = cc in omega arith)
 
   pub step-given : StepTaken j t room → Accepted (stepSays j t room)
-  unfolding stepSays stepChecked searched
+  unfolding stepSays stepChecked searched workNeeded
   step-given h =
       subst Accepted (sym (said (step-checks j (length t) room) (searched j t dark light) passes)) (go (qualifies (j .settings) dark light) refl)
     where

@@ -11,3 +11,4 @@ pub mod Accepted
 pub mod Goes
 pub mod Example
 pub mod Loops
+pub mod Rooms

@@ -9,7 +9,6 @@ use Rattle.limits.specs.Answers.{Said, value}
 use Rattle.limits.specs.Taken.{f32Of, entryTaken}
 use Rattle.limits.specs.Each.{Each}
 use Rattle.gamut.specs.Table.{levelsIn, rowAt}
-use Rattle.placement_rules.specs.Placing.{workNeeded}
 use Rattle.search_rules.specs.declared.Settings.{Settings}
 use Rattle.search_rules.specs.declared.Best.{Best}
 use Rattle.search_rules.specs.declared.Best.the-variants.{None, Found}
@@ -62,5 +61,5 @@ pub record StepTaken (j : Job) (t : List Float) (room : ℕ) : Type 0 where
   pub unbroken : Unbroken j
   pub unfinished : j .position < j .levels * j .levels
   pub whole-levels : length t ≡ j .levels * 720
-  pub room-enough : workNeeded 720 ≤ room
+  pub room-enough : 720 ≤ room
   pub entries : FarApart (j .settings .gap) (j .position / j .levels) (j .position % j .levels) → EachTaken (rowAt t (j .position / j .levels)) × EachTaken (rowAt t (j .position % j .levels))

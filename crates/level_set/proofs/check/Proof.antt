@@ -72,9 +72,6 @@ returns c = first _ _ (c .before .before .before .before .args .room) (sym (c .b
 one : (c : tie.Else1) → tableTaken (c .before .before .before .before .args .table .now) ≡ true
 one c = sym (c .before .takes-table .ensures) ∙ not-false _ (c .if1 .left)
 
-mul-if2 : tie.Need-mul-if2
-mul-if2 c = search needs
-
 returns-2 : tie.Need-returns-2
 unfolding workNeeded
 returns-2 c = second _ (c .before .before .before .before .before .args .levels .now) _ (one (c .before)) (c .if2 .taken)
@@ -141,7 +138,6 @@ check-spec =
     (tie.spec
     takes-table-requires
     returns
-    mul-if2
     returns-2
     returns-3
     takes-indices-requires

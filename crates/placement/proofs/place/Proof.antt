@@ -1,26 +1,35 @@
--- `placement::place` meets its contract: both laps are filled, the second first. Assumes nothing.
-use mathlib.Core.Path.{_≡_, refl, sym}
-use mathlib.Core.Logic.{inl, inr}
-use Prim.Native.Nat.{_+_}
-use native.Mathlib.Nat.{zero-add}
-use native.Mathlib.Omega.{arith}
+-- `placement::place` meets its contract: where an index is allowed the table is filled and the starts are tried, and where none is nothing is placed. Assumes nothing.
+use mathlib.Core.Path.{sym, ap, _∙_}
 use borrow.Author.Needs.{needs}
-use Rattle.placement.specs.Inner.{LapAsked}
-use Rattle.placement.proofs.Table.{past, filled-past}
+use Rattle.placement_rules.specs.Placing.{sixteen}
+use Rattle.placement.proofs.Table.{is-there, is-none}
+use Rattle.placement.proofs.First.{none-allowed}
+use Rattle.placement.proofs.Placing.{gives-none}
 use Rattle.placement.proofs.place.Statement.{statement}
 use Rattle.placement.proofs.place.Tie as tie
 
-fill-lap-requires : tie.Need-fill-lap-requires
-fill-lap-requires c κs =
-    let s = c .before .before .before in
-    let h = s .pre .0 .short in
-    record { short = h; lap = inr refl; above = past (s .args .m .now) (s .args .c) 65535 (omega arith); filled = filled-past (s .args .m .now) (s .args .c) (s .args .work .now) (s .pre .1) }
+first-allowed-requires : tie.Need-first-allowed-requires
+first-allowed-requires c κs = search needs
 
-fill-lap-requires-2 : tie.Need-fill-lap-requires-2
-fill-lap-requires-2 c κs =
-    let f = c .before .before .before in
-    let s = c .before .before .before .before .before .before .before in
-    record { short = s .pre .0 .short; lap = inl refl; above = rw zero-add (f .fill-lap .ensures .1); filled = rw zero-add (f .fill-lap .ensures .0) }
+nowhere-requires : tie.Need-nowhere-requires
+nowhere-requires c κs = search needs
+
+returns : tie.Need-returns
+returns c =
+    let t = c .before in
+    let f = t .before in
+    let s = f .before .before .before in
+    let row = s .args .m .now in
+    let none = is-none row (s .args .c) (s .pre .0 .short) (sym (t .if1 .taken) ∙ f .first-allowed .ensures) in
+    gives-none (c .nowhere .result) _ (ap sixteen (none-allowed row (s .args .c) (s .args .k) (s .args .step) (s .pre .0) none)) (c .nowhere .ensures)
+
+fill-requires : tie.Need-fill-requires
+fill-requires c κs =
+    let t = c .before in
+    let f = t .before in
+    let s = f .before .before .before in
+    let there = is-there (s .args .m .now) (s .args .c) (f .first-allowed .result) (f .first-allowed .ensures) (t .if1 .left) in
+    record { short = s .pre .0 .short; is-first = there .0; there = there .1; long = s .pre .1 }
 
 first-start-requires : tie.Need-first-start-requires
 first-start-requires c κs = search needs
@@ -28,8 +37,8 @@ first-start-requires c κs = search needs
 same-length : tie.Need-same-length
 same-length c = search needs
 
-returns : tie.Need-returns
-returns c = search needs
+returns-2 : tie.Need-returns-2
+returns-2 c = search needs
 
 pub place-spec : {M : Type 1} → statement M
-place-spec = tie.close (tie.spec fill-lap-requires fill-lap-requires-2 first-start-requires same-length returns)
+place-spec = tie.close (tie.spec first-allowed-requires nowhere-requires returns fill-requires first-start-requires same-length returns-2)

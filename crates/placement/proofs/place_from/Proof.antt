@@ -1,21 +1,19 @@
 -- `placement::place_from` meets its contract. The invariant: what is stored so far, with the rest of the definition from cur on, is the whole. Assumes nothing.
-use mathlib.Core.Path.{_≡_, refl, sym, ap, _∙_, subst}
-use mathlib.Core.Logic.{inl}
+use mathlib.Core.Path.{_≡_, refl, sym, ap, _∙_}
 use mathlib.Core.Bool.{true, false}
 use mathlib.Core.List.{[]}
-use Prim.Native.Nat.{ℕ, suc, _+_, _-_, _%_, _≤_, _<_, min}
-use native.Mathlib.Nat.{mod-eq-of-lt, zero-add}
+use Prim.Native.Nat.{ℕ, suc, _+_, _-_, _%_, _≤_, _<_}
+use native.Mathlib.Nat.{mod-eq-of-lt}
 use native.Mathlib.Omega.{arith}
-use lib.Ieee.{le, nan}
-use lib.ListN.{length, getD, set, replicate, length-set}
+use lib.ListN.{length, set, replicate, length-set}
 use borrow.Author.Needs.{needs}
 use borrow.Author.Tests.{not-true, not-false}
 use Rattle.placement_rules.specs.declared.Placement.{Placement}
 use Rattle.placement_rules.specs.Ring.{Places, nowhere, placed, before, onward, fromStart, reduced}
 use Rattle.placement_rules.specs.Placing.{allowedAt, sixteen}
-use Rattle.placement.specs.Inner.{Asked, Stands, Filled, Gives}
+use Rattle.placement.specs.Inner.{Gives}
 use Rattle.placement_rules.proofs.Earliest.{from}
-use Rattle.placement.proofs.Table.{allowed-there}
+use Rattle.placement.proofs.Table.{allowed-there, in-one-round}
 use Rattle.placement.proofs.Placing.{stored, sixteen-stored, store-one, store-none, too-late, none-left, one-on, closed, open-end, at-start, not-there, gives, gives-none}
 use Rattle.placement.proofs.place_from.Statement.{statement}
 use Rattle.placement.proofs.place_from.Tie as tie
@@ -54,8 +52,7 @@ returns c =
     let t = c .before in
     let s = t .before .before .before .before in
     let row = s .args .m .now in
-    let a = allowed-there row (s .args .c) 0 (s .args .start) (inl refl) (s .pre .1 .1) in
-    let f : allowedAt row (s .args .c) (s .args .start) ≡ false = ap (allowedAt row (s .args .c)) (sym (zero-add (s .args .start))) ∙ a ∙ not-true _ (t .if1 .taken) in
+    let f : allowedAt row (s .args .c) (s .args .start) ≡ false = allowed-there row (s .args .c) (s .args .start) (s .pre .1 .1) ∙ not-true _ (t .if1 .taken) in
     gives-none _ _ (ap (λ (p : Places). sixteen (reduced (length row) p)) (not-there (allowedAt row (s .args .c)) (length row) (s .args .k) (s .args .step) (s .args .start) f)) (c .nowhere .ensures)
 
 add-stop : tie.Need-add-stop Inv-loop μ-loop
@@ -73,8 +70,7 @@ loop-holds c =
     let row = s .args .m .now in
     let u : s .args .start < length row = s .pre .1 .1 in
     let k : 1 ≤ s .args .k = s .pre .0 .some-hue in
-    let a = allowed-there row (s .args .c) 0 (s .args .start) (inl refl) u in
-    let t : allowedAt row (s .args .c) (s .args .start) ≡ true = ap (allowedAt row (s .args .c)) (sym (zero-add (s .args .start))) ∙ a ∙ not-false _ (c .if1 .left) in
+    let t : allowedAt row (s .args .c) (s .args .start) ≡ true = allowed-there row (s .args .c) (s .args .start) u ∙ not-false _ (c .if1 .left) in
     let e : s .args .start % length row ≡ s .args .start = mod-eq-of-lt u in (
       omega arith,
       k,
@@ -100,14 +96,12 @@ returns-2 c =
     let late = too-late (allowedAt (n .args .m .now) (n .args .c)) (n .args .step) (n .args .start + length (n .args .m .now)) (n .args .k - (l .loop .at + 1)) (l .loop .cur) (t .if2 .taken) in
     ended l (c .nowhere2 .result) (ap (λ (x : ℕ). onward (allowedAt (n .args .m .now) (n .args .c)) (n .args .step) (n .args .start + length (n .args .m .now)) x (l .loop .cur)) e ∙ late) (c .nowhere2 .ensures)
 
-mul-j : tie.Need-mul-j Inv-loop μ-loop
-mul-j c = let w = sizes (c .before .before) in let h = c .if2 .left in omega arith
-
-shared-slice-read-j : tie.Need-shared-slice-read-j Inv-loop μ-loop
-shared-slice-read-j c = let w = sizes (c .before .before .before) in let h = c .before .if2 .left in let f = c .before .before .before .before .before .before .before .before .pre .1 .0 .long in omega arith
-
-cast-j : tie.Need-cast-j Inv-loop μ-loop
-cast-j c = let h = c .shared-slice-known4 .given (c .before .before .before .loop .cur + c .before .before .before .before .before .before .before .before .args .step) in omega (arith, h)
+ahead-requires : tie.Need-ahead-requires Inv-loop μ-loop
+ahead-requires c κs =
+    let w = sizes (c .before .before) in
+    let s = c .before .before .before .before .before .before .before in
+    let h = c .if2 .left in
+    (s .pre .0 .short, (s .pre .1 .0, omega arith))
 
 nowhere-requires-3 : tie.Need-nowhere-requires-3 Inv-loop μ-loop
 nowhere-requires-3 c κs = search needs
@@ -125,8 +119,8 @@ returns-3 c =
     let stop = n .args .start + length row in
     let cur = l .loop .cur in
     let e : n .args .k - l .loop .at ≡ suc (n .args .k - (l .loop .at + 1)) = omega arith in
-    let st = n .pre .1 .0 .at (cur + n .args .step) (omega arith) (omega arith) in
-    let none = none-left (allowedAt row (n .args .c)) (n .args .step) stop (n .args .k - (l .loop .at + 1)) cur _ (length row + length row) (omega arith) (omega arith) st (t .if3 .taken) in
+    let st = in-one-round row (n .args .c) (cur + n .args .step) (t .before .ahead .result) (t .before .ahead .ensures) in
+    let none = none-left (allowedAt row (n .args .c)) (n .args .step) stop (n .args .k - (l .loop .at + 1)) cur (t .before .ahead .result) (cur + n .args .step + length row) (omega arith) (omega arith) st (t .if3 .taken) in
     ended l (c .nowhere3 .result) (ap (λ (x : ℕ). onward (allowedAt row (n .args .c)) (n .args .step) stop x cur) e ∙ none) (c .nowhere3 .ensures)
 
 reduce-requires : tie.Need-reduce-requires Inv-loop μ-loop
@@ -163,12 +157,13 @@ loop-again c =
     let cur = l .loop .cur in
     let at = l .loop .at in
     let hues = l .loop .hues in
-    let j = getD (n .args .next .now) (cur + n .args .step) 0 in
+    let j = three .before .ahead .result in
     let u : j < stop = three .if3 .left in
     let e : n .args .k - at ≡ suc (n .args .k - (at + 1)) = omega arith in
-    let st = n .pre .1 .0 .at (cur + n .args .step) (omega arith) (omega arith) in
-    let far : cur + n .args .step ≤ j = let b = from ok (length row + length row - (cur + n .args .step)) (cur + n .args .step) in omega arith in
-    let on = one-on ok (n .args .step) stop (n .args .k - (at + 1)) cur j (length row + length row) (omega arith) (omega arith) st u in
+    let is = three .before .ahead .ensures in
+    let st = in-one-round row (n .args .c) (cur + n .args .step) j is in
+    let far : cur + n .args .step ≤ j = let b = from ok (length row) (cur + n .args .step) in omega arith in
+    let on = one-on ok (n .args .step) stop (n .args .k - (at + 1)) cur j (cur + n .args .step + length row) (omega arith) (omega arith) st u in
     let x : at + 1 ≡ suc at = omega arith in (
       omega arith,
       omega arith,
@@ -217,4 +212,4 @@ returns-5 c =
 pub place-from-spec : {M : Type 1} → statement M
 place-from-spec =
     tie.close
-    (tie.spec Inv-loop μ-loop mul-if1 shared-slice-read-if1 nowhere-requires returns add-stop cast-hues array-write-hues loop-holds add-from nowhere-requires-2 returns-2 mul-j shared-slice-read-j cast-j nowhere-requires-3 returns-3 reduce-requires mul-hues array-write-hues-2 add-at loop-less loop-again sub-if4 nowhere-requires-4 returns-4 returns-5)
+    (tie.spec Inv-loop μ-loop mul-if1 shared-slice-read-if1 nowhere-requires returns add-stop cast-hues array-write-hues loop-holds add-from nowhere-requires-2 returns-2 ahead-requires nowhere-requires-3 returns-3 reduce-requires mul-hues array-write-hues-2 add-at loop-less loop-again sub-if4 nowhere-requires-4 returns-4 returns-5)

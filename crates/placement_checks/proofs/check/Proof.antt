@@ -2,7 +2,7 @@
 use mathlib.Core.Path.{_≡_, sym, _∙_}
 use mathlib.Core.Bool.{true, false, _&&_}
 use mathlib.Core.List.{List}
-use Prim.Native.Nat.{ℕ, _*_, _≤_, _<_}
+use Prim.Native.Nat.{ℕ, _≤_, _<_}
 use native.Mathlib.Omega.{arith}
 use lib.Dec.{leb}
 use lib.Ieee.{Float}
@@ -44,11 +44,11 @@ module _ (k step : ℕ) (c : Float) (row : List Float) (room : ℕ) where
           fifth f = rw (one, two, three, four, f)
 
           module _ (five : every entryTaken row ≡ true) where
-            sixth : room < 3 * length row → refused 8 ≡ said
+            sixth : room < length row → refused 8 ≡ said
             unfolding checked workNeeded
             sixth h = rw (one, two, three, four, five, lt-leb _ _ h)
 
-            fine : 3 * length row ≤ room → value tt ≡ said
+            fine : length row ≤ room → value tt ≡ said
             unfolding checked workNeeded
             fine h = rw (one, two, three, four, five, le-leb _ _ h)
 
@@ -106,16 +106,15 @@ returns-5 c =
 five : (c : tie.Else5) → every entryTaken (c .before .before .before .before .before .before .before .before .before .before .before .args .m .now) ≡ true
 five c = sym (c .before .takes-entries .ensures) ∙ not-false _ (c .if5 .left)
 
-mul-if6 : tie.Need-mul-if6
-mul-if6 c = search needs
-
 returns-6 : tie.Need-returns-6
 returns-6 c =
     let h = c .before in
     let g = h .before .before in
     let f = g .before .before in
     let e = f .before .before in
-    sixth _ _ _ _ _ (one (e .before .before)) (two e) (three f) (four g) (five h) (c .if6 .taken)
+    let a = e .before .before .before .before .before .args in
+    let less = c .if6 .taken in
+    sixth (a .k) (a .step) (a .c) (a .m .now) (a .room) (one (e .before .before)) (two e) (three f) (four g) (five h) (omega arith)
 
 returns-7 : tie.Need-returns-7
 returns-7 c =
@@ -123,9 +122,11 @@ returns-7 c =
     let g = h .before .before in
     let f = g .before .before in
     let e = f .before .before in
-    fine _ _ _ _ _ (one (e .before .before)) (two e) (three f) (four g) (five h) (c .if6 .left)
+    let a = e .before .before .before .before .before .args in
+    let enough = c .if6 .left in
+    fine (a .k) (a .step) (a .c) (a .m .now) (a .room) (one (e .before .before)) (two e) (three f) (four g) (five h) (omega arith)
 
 pub check-spec : {M : Type 1} → statement M
 check-spec =
     tie.close
-    (tie.spec takes-hue-count-requires returns takes-chroma-requires returns-2 between-requires returns-3 between-requires-2 returns-4 takes-entries-requires returns-5 mul-if6 returns-6 returns-7)
+    (tie.spec takes-hue-count-requires returns takes-chroma-requires returns-2 between-requires returns-3 between-requires-2 returns-4 takes-entries-requires returns-5 returns-6 returns-7)

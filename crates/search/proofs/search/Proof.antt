@@ -46,9 +46,6 @@ refuse-requires c κs = search needs
 enum-told : tie.Need-enum-told
 enum-told c = search needs
 
-mul-if1 : tie.Need-mul-if1
-mul-if1 c = search needs
-
 refuse-requires-2 : tie.Need-refuse-requires-2
 refuse-requires-2 c κs = search needs
 
@@ -110,7 +107,6 @@ search-spec =
     enum-known-checked
     refuse-requires
     enum-told
-    mul-if1
     refuse-requires-2
     returns
     begin-requires

@@ -69,9 +69,6 @@ returns-3 c =
     let f = c .before in
     third _ _ _ (one (f .before .before)) (f .if2 .left) (c .if3 .taken)
 
-mul-if4 : tie.Need-mul-if4
-mul-if4 c = search needs
-
 returns-4 : tie.Need-returns-4
 unfolding workNeeded
 returns-4 c =
@@ -96,6 +93,5 @@ check-step-spec =
     returns-2
     mul-if3
     returns-3
-    mul-if4
     returns-4
     returns-5)
