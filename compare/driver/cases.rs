@@ -67,8 +67,11 @@ fn answer(operation: &str, input: &[u32], cos: &[f32], sin: &[f32]) -> Vec<u32> 
     }
 }
 
-/// Writes the head of a list of cases of this kind, over this published file with this of
-/// document 01, made by this command.
+/// What the lists of placements, pairs and searches put beside the published file.
+pub const REFUSALS: &str = "the refusals of documents 01 and 02";
+
+/// Writes the head of a list of cases of this kind, over this published file with this beside it,
+/// made by this command.
 pub fn head(
     out: &mut dyn Write,
     kind: &str,
@@ -89,10 +92,7 @@ pub fn head(
         "# Made by: compare/build && target/compare/driver {command}"
     )?;
     writeln!(out, "# The outputs are those of {source} of the repository")?;
-    writeln!(
-        out,
-        "# TheRincon/lcr-codes 7e9e1755be with {with} of document 01."
-    )
+    writeln!(out, "# TheRincon/lcr-codes 7e9e1755be with {with}.")
 }
 
 /// Writes one line.
@@ -157,7 +157,7 @@ impl List<'_> {
         source: &str,
         command: &str,
     ) -> io::Result<List<'a>> {
-        head(out, kind, source, "the stand-ins", command)?;
+        head(out, kind, source, "the stand-ins of document 01", command)?;
         let (cos, sin) = standins::directions();
         let mut list = List { out, cos, sin };
         for j in 0..standins::DIRECTIONS {

@@ -1,6 +1,6 @@
 //! The lines of a list of pair cases: two rows, and the best over them.
 
-use crate::cases::{head, line, word, wrong};
+use crate::cases::{head, line, word, wrong, REFUSALS};
 use crate::pairing;
 use crate::placement::{refusal, Call, STORED};
 use crate::placing;
@@ -73,7 +73,7 @@ impl Pairs<'_> {
     /// Begins a list made by this command.
     pub fn begin<'a>(out: &'a mut dyn Write, command: &str) -> io::Result<Pairs<'a>> {
         let source = "xtask/src/palette.rs";
-        head(out, "Pair", source, "the refusals", command)?;
+        head(out, "Pair", source, REFUSALS, command)?;
         Ok(Pairs {
             out,
             entries: [[0.0; STORED]; 2],

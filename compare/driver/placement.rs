@@ -1,6 +1,6 @@
 //! The lines of a list of placement cases: rings, steps, placements and sweeps.
 
-use crate::cases::{head, line, word, wrong};
+use crate::cases::{head, line, word, wrong, REFUSALS};
 use crate::gamut::digest;
 use crate::placing;
 use crate::rooms::{sides, Rooms};
@@ -175,7 +175,7 @@ impl Placements<'_> {
     /// Begins a list made by this command.
     pub fn begin<'a>(out: &'a mut dyn Write, command: &str) -> io::Result<Placements<'a>> {
         let source = "xtask/src/palette.rs";
-        head(out, "Placement", source, "the refusals", command)?;
+        head(out, "Placement", source, REFUSALS, command)?;
         Ok(Placements {
             out,
             entries: [0.0; STORED],

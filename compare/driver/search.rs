@@ -1,6 +1,6 @@
 //! The lines of a list of search cases: a table, a job, and calls over both.
 
-use crate::cases::{head, line, word, wrong};
+use crate::cases::{head, line, word, wrong, REFUSALS};
 use crate::chroma::{l_of, max_chroma};
 use crate::gamut::digest;
 use crate::job::{self, Job, ROOM};
@@ -66,8 +66,8 @@ impl Searches<'_> {
         command: &str,
         rooms: Rooms,
     ) -> io::Result<Searches<'a>> {
-        let with = "the stand-ins and the refusals";
-        head(out, "Search", "xtask/src/palette.rs", with, command)?;
+        let with = format!("the stand-ins of document 01 and {REFUSALS}");
+        head(out, "Search", "xtask/src/palette.rs", &with, command)?;
         let (cos, sin) = directions();
         for (j, (cos, sin)) in cos.iter().zip(&sin).enumerate() {
             line(out, "dir", &[j as u32, word(*cos), word(*sin)])?;

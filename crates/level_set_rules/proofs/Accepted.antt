@@ -17,6 +17,7 @@ use Rattle.limits.proofs.Lists.{each-true, every-true}
 use Rattle.gamut.specs.Table.{levelsIn, tableTaken}
 use Rattle.gamut.proofs.Table.{levelled, table-taken}
 use Rattle.placement_rules.specs.Placing.{workNeeded}
+use Rattle.placement_rules.proofs.Room.{one-lap, enough}
 use Rattle.pair_rules.specs.Rows.{leastRow}
 use Rattle.pair_rules.specs.Pair.{Best, entriesTaken}
 use Rattle.level_set_rules.specs.Set.{rowsAt, setOver, listTaken, indicesTaken, namedChecked, setChecked, setSays}
@@ -67,14 +68,13 @@ module _ (k : ℕ) (t : List Float) (levels : List ℕ) (room : ℕ) where
   over = setOver k (leastRow (rowsAt t levels))
 
   pub in-words : hueCountTaken k ≡ true → AllPass named-checks → SetTaken k t levels room
-  unfolding workNeeded
   in-words one p =
       let l = levelled t (p .0) in
       record {
         hue-count = hue-count k one;
         whole-levels = l .long;
         levels-in = (l .some-level, l .few-levels);
-        room-enough = leb-true (workNeeded 720) room (p .1 .0);
+        room-enough = one-lap 720 room .0 (leb-true (workNeeded 720) room (p .1 .0));
         listed = listed levels (p .1 .1 .0);
         within = indices-in (levelsIn t) levels (p .1 .1 .1 .0);
         entries = rows-in (rowsAt t levels) (p .1 .1 .1 .1 .0);
@@ -90,13 +90,13 @@ module _ (k : ℕ) (t : List Float) (levels : List ℕ) (room : ℕ) where
       same x h = cc
 
   pub set-given : SetTaken k t levels room → setSays k t levels room ≡ value over
-  unfolding setSays setChecked namedChecked workNeeded
+  unfolding setSays setChecked namedChecked
   set-given h =
       said set-checks (value over) (
         count-taken k (h .hue-count),
         (
           table-taken t (record { long = h .whole-levels; some-level = h .levels-in .0; few-levels = h .levels-in .1 }),
-          (le-leb (workNeeded 720) room (h .room-enough), (list-taken levels (h .listed), (indices-taken (levelsIn t) levels (h .within), (rows-taken (rowsAt t levels) (h .entries), tt)))),
+          (enough 720 room (h .room-enough), (list-taken levels (h .listed), (indices-taken (levelsIn t) levels (h .within), (rows-taken (rowsAt t levels) (h .entries), tt)))),
         ),
       )
 

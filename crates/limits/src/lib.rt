@@ -5,7 +5,7 @@ ghost use mathlib.Core.Bool.{not};
 ghost use Rattle.limits.specs.Refusals.{number};
 ghost use Rattle.limits.specs.Taken.{outside, signClear, upTo, hueCountTaken, gapTaken, chromaTaken, entryTaken, directionTaken, rootOperandTaken, hueOperandTaken, every, directionsTaken};
 
-// Why a call was refused. The comment is document 01's number, from 18 on that of document 02.
+// Why a call was refused. The comment is document 01's number, from 18 on that of document 02, whose Req 04 words 8.
 pub enum Refusal {
     // 1: hue count k not 1 to 16
     HueCount,

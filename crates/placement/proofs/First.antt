@@ -13,6 +13,7 @@ use Rattle.placement_rules.specs.declared.Answer.the-variants.{Placed, Nowhere,
 use Rattle.placement_rules.specs.Ring.{Places, nowhere, placed, orElse, earliest, fromStart, firstFrom, reduced, placement}
 use Rattle.placement_rules.specs.Placing.{allowedAt, sixteen, answers, isPlaced}
 use Rattle.placement.specs.Inner.{Asked}
+use Rattle.placement.proofs.Table.{one-less}
 use Rattle.placement_rules.proofs.Chain.{Some}
 use Rattle.placement_rules.proofs.Earliest.{first}
 use Rattle.placement_rules.proofs.Laws.{few-starts, sound}
@@ -47,13 +48,10 @@ module _ (row : List Float) (c : Float) (k step : ℕ) (asked : Asked row k step
   all-starts = ap (reduced (length row)) (few-starts (allowedAt row c) (length row) k step (round row c) (asked .some-hue) (asked .some-step) (asked .within))
 
   module _ (s : ℕ) (so-far : firstFrom try (starts - s) s ≡ firstFrom try starts 0) where
-    one-less : s < starts → starts - s ≡ suc (starts - (s + 1))
-    one-less h = omega arith
-
     pub found : s < starts → Some (try s) → placement (allowedAt row c) (length row) k step ≡ reduced (length row) (try s)
     unfolding firstFrom
     found h t =
-        let e : firstFrom try (suc (starts - (s + 1))) s ≡ firstFrom try starts 0 = rw (one-less h) at so-far in
+        let e : firstFrom try (suc (starts - (s + 1))) s ≡ firstFrom try starts 0 = rw (one-less starts s h) at so-far in
         all-starts ∙ ap (reduced (length row)) (sym e ∙ taken (try s) (firstFrom try (starts - (s + 1)) (suc s)) t)
       where
         taken : (p later : Places) → Some p → orElse p later ≡ p
@@ -64,7 +62,7 @@ module _ (row : List Float) (c : Float) (k step : ℕ) (asked : Asked row k step
     unfolding firstFrom
     onward h f =
         let n : s + 1 ≡ suc s = omega arith in
-        let e : firstFrom try (suc (starts - (s + 1))) s ≡ firstFrom try starts 0 = rw (one-less h) at so-far in
+        let e : firstFrom try (suc (starts - (s + 1))) s ≡ firstFrom try starts 0 = rw (one-less starts s h) at so-far in
         ap (λ (x : ℕ). firstFrom try (starts - (s + 1)) x) n ∙ (rw f at e)
 
     pub none : starts ≤ s → placement (allowedAt row c) (length row) k step ≡ nowhere

@@ -19,6 +19,10 @@ use Rattle.placement_rules.proofs.Earliest.{below-or-not, to}
 use Rattle.placement_rules.proofs.Earliest as first
 use Rattle.placement_rules.proofs.Round.{round-on, itself, passed}
 
+-- one less is left
+pub one-less : (n i : ℕ) → i < n → n - i ≡ suc (n - (i + 1))
+one-less n i h = omega arith
+
 module _ (row : List Float) (c : Float) where
   abbrev n : ℕ
   n = length row
@@ -32,18 +36,15 @@ module _ (row : List Float) (c : Float) where
 
   -- ---- the first allowed index: none is allowed before i
   module _ (i : ℕ) (so-far : earliest ok (n - i) i ≡ earliest ok n 0) where
-    one-less : i < n → n - i ≡ suc (n - (i + 1))
-    one-less h = omega arith
-
     pub first-here : i < n → ok i ≡ true → i ≡ firstAllowed row c
     first-here h t =
-        let e : earliest ok n 0 ≡ i = sym so-far ∙ ap (λ (x : ℕ). earliest ok x i) (one-less h) ∙ first.here ok (n - (i + 1)) i t in
+        let e : earliest ok n 0 ≡ i = sym so-far ∙ ap (λ (x : ℕ). earliest ok x i) (one-less n i h) ∙ first.here ok (n - (i + 1)) i t in
         rw (e, lt-ltb i n h)
 
     pub not-here : i < n → ok i ≡ false → earliest ok (n - (i + 1)) (i + 1) ≡ earliest ok n 0
     not-here h t =
         let s : i + 1 ≡ suc i = omega arith in
-        ap (earliest ok (n - (i + 1))) s ∙ sym (first.skip ok (n - (i + 1)) i t) ∙ ap (λ (x : ℕ). earliest ok x i) (sym (one-less h)) ∙ so-far
+        ap (earliest ok (n - (i + 1))) s ∙ sym (first.skip ok (n - (i + 1)) i t) ∙ ap (λ (x : ℕ). earliest ok x i) (sym (one-less n i h)) ∙ so-far
 
     pub none-there : n ≤ i → 65535 ≡ firstAllowed row c
     unfolding earliest

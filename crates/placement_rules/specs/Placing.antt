@@ -1,6 +1,6 @@
 -- Document 01, "Hue ring", as a call: which arguments are refused by which number, what is handed out as sixteen indices, and the step for k. Definitions only.
 use Prim.Native.Nat.{ℕ, suc, _+_, _-_, _/_, _%_}
-use mathlib.Core.Bool.{Bool, true, false, not, _&&_, cond}
+use mathlib.Core.Bool.{Bool, true, false, _&&_, cond}
 use mathlib.Core.List.{List, [], _∷_}
 use lib.Dec.{leb}
 use lib.Ieee.{Float, nan, le}
@@ -10,7 +10,6 @@ use Rattle.limits.specs.Refusals.{number}
 use Rattle.limits.specs.Taken.{hueCountTaken, chromaTaken, entryTaken, every}
 use Rattle.placement_rules.specs.declared.Answer.{Answer}
 use Rattle.placement_rules.specs.declared.Answer.the-variants.{Placed, Nowhere, Refused}
-use Rattle.placement_rules.specs.declared.Placement.{Placement}
 use Rattle.placement_rules.specs.declared.Stepping.{Stepping}
 use Rattle.placement_rules.specs.declared.Stepping.the-variants.{Is, Declined}
 use Rattle.placement_rules.specs.Ring.{Places, nowhere, placed, placement}
@@ -23,7 +22,7 @@ allowedAt row c i = le c (getD row (i % length row) nan)
 unfoldable pub stepFor : ℕ → ℕ
 stepFor k = (600 + (k - 1)) / k + 1
 
--- number 8: how long a work buffer must be, one entry for each position of the ring
+-- number 8, Req 04: "The work buffer may now hold one entry for each ring position"
 unfoldable pub workNeeded : ℕ → ℕ
 workNeeded n = n
 

@@ -1,4 +1,5 @@
--- Start is accepted exactly on document 01's conditions, and so are step and search (`start-exactly`, `step-exactly`, `search-exactly`). Assumes nothing.
+-- Start is accepted exactly on document 01's conditions, and so are step and search on these and Req 04's for number 8 (`start-exactly`, `step-exactly`, `search-exactly`).
+-- Assumes nothing.
 use mathlib.Core.Path.{_≡_, refl, sym, _∙_, subst}
 use mathlib.Core.Logic.{_↔_}
 use mathlib.Core.Bool.{Bool, true, false, _&&_, cond}
@@ -19,6 +20,7 @@ use Rattle.limits.proofs.Lists.{each-true, every-true}
 use Rattle.gamut.specs.Table.{levelsIn, rowAt}
 use Rattle.gamut.proofs.Table.{levelled, table-taken}
 use Rattle.placement_rules.specs.Placing.{workNeeded}
+use Rattle.placement_rules.proofs.Room.{one-lap}
 use Rattle.search_rules.specs.declared.Settings.{Settings}
 use Rattle.search_rules.specs.declared.Job.{Job}
 use Rattle.search_rules.specs.Job.{begun, startChecked, startSays, qualifies, movedOn, afterPair, pairBest, searched, stepChecked, stepSays, stepsFrom, searchSays}
@@ -76,9 +78,10 @@ module _ (s : Settings) (t : List Float) where
     search-given h r = start-passing h (cond (leb (workNeeded 720) room) done (refused 8)) ∙ said (check (leb (workNeeded 720) room) 8 ∷ []) done (le-leb (workNeeded 720) room r, tt)
 
     pub search-exactly : Accepted (searchSays s t room) ↔ (StartTaken s t × (720 ≤ room))
-    unfolding workNeeded
-    search-exactly =
-        (search-only, λ (h : StartTaken s t × (720 ≤ room)). (stepsFrom (levelsIn t * levelsIn t) (begun s (levelsIn t)) t room, search-given (h .0) (h .1)))
+    search-exactly = (
+      λ (a : Accepted (searchSays s t room)). let h = search-only a in (h .0, one-lap 720 room .0 (h .1)),
+      λ (h : StartTaken s t × (720 ≤ room)). (stepsFrom (levelsIn t * levelsIn t) (begun s (levelsIn t)) t room, search-given (h .0) (one-lap 720 room .1 (h .1))),
+    )
 
 -- ---- step
 module _ (j : Job) (t : List Float) (room : ℕ) where
@@ -105,7 +108,7 @@ module _ (j : Job) (t : List Float) (room : ℕ) where
   both-rows = every entryTaken (rowAt t dark) && every entryTaken (rowAt t light)
 
   pub step-only : Accepted (stepSays j t room) → StepTaken j t room
-  unfolding stepSays stepChecked searched workNeeded
+  unfolding stepSays stepChecked searched
   step-only a =
       let f = all-pass (step-checks j (length t) room) (searched j t dark light) (a .0) (a .1) in
       let p = step-passed j (length t) room (f .0) in
@@ -115,7 +118,7 @@ module _ (j : Job) (t : List Float) (room : ℕ) where
         unbroken = sound;
         unfinished = u;
         whole-levels = p .whole;
-        room-enough = p .room-enough;
+        room-enough = one-lap 720 room .0 (p .room-enough);
         entries = λ (far : FarApart (j .settings .gap) dark light). read (qualified (j .settings) (sound .gap) dark light (inside sound u .0) (inside sound u .1) far) (f .1);
       }
     where
@@ -127,12 +130,12 @@ module _ (j : Job) (t : List Float) (room : ℕ) where
           go false e h = absurd (let z : _≡_ {A = ℕ} 0 1 = cc in omega arith)
 
   pub step-given : StepTaken j t room → Accepted (stepSays j t room)
-  unfolding stepSays stepChecked searched workNeeded
+  unfolding stepSays stepChecked searched
   step-given h =
       subst Accepted (sym (said (step-checks j (length t) room) (searched j t dark light) passes)) (go (qualifies (j .settings) dark light) refl)
     where
       passes : AllPass (step-checks j (length t) room)
-      passes = step-passes j (length t) room (record { sound = unbroken-exactly j .1 (h .unbroken); unfinished = h .unfinished; whole = h .whole-levels; room-enough = h .room-enough })
+      passes = step-passes j (length t) room (record { sound = unbroken-exactly j .1 (h .unbroken); unfinished = h .unfinished; whole = h .whole-levels; room-enough = one-lap 720 room .1 (h .room-enough) })
 
       go : (q : Bool) → qualifies (j .settings) dark light ≡ q → Accepted (goes-on q both-rows)
       go false e = (_, refl)

@@ -1,4 +1,5 @@
--- When a call is accepted, by document 01's conditions in so many words: for a start numbers 1, 2, 6, 7, for a step numbers 15, 14, 6, 8, 7. Definitions only.
+-- When a call is accepted, by document 01's conditions in so many words, and for number 8 by Req 04's: for a start numbers 1, 2, 6, 7, for a step numbers 15, 14, 6, 8, 7.
+-- Definitions only.
 use mathlib.Core.Path.{_≡_}
 use mathlib.Core.Bool.{true}
 use mathlib.Core.List.{List}
