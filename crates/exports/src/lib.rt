@@ -1,5 +1,6 @@
 // Functions for callers in other languages, each exported under its own name. A slice is handed over as the address of its
-// first element, then its length; what is written must overlap nothing else that is handed over.
+// first element, then its length; what is written must overlap nothing else that is handed over. A work buffer has at least one
+// entry for each position of the ring, 720 for a search or a set of levels; what it holds does not matter.
 use palette::BackOff;
 use palette::Design;
 use search::Best;
