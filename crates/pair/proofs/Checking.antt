@@ -19,6 +19,7 @@ use Rattle.limits.specs.declared.Checked.{Checked}
 use Rattle.limits.specs.declared.Checked.the-variants.{Fine, Wrong}
 use Rattle.placement_rules.specs.Placing.{workNeeded, checked}
 use Rattle.placement_rules.proofs.Checking.{checks, ring-passes}
+use Rattle.placement_rules.proofs.Room.{enough}
 use Rattle.pair_rules.specs.Rows.{ringLength, leastRow}
 use Rattle.pair_rules.specs.Pair.{bestOver, alike, lengthsTaken, entriesTaken, rowsChecked, rowsSay}
 use Rattle.pair_rules.proofs.Rows.{least-long, least-of-one, least-taken}
@@ -89,9 +90,8 @@ first-left : (e e' : Bool) → e' ≡ true → (e && (e' && true)) ≡ e
 first-left true e' h = rw h
 first-left false e' h = refl
 
-few : (n : ℕ) → (leb 1 n && leb n 720) ≡ true → leb (workNeeded n) (workNeeded 720) ≡ true
-unfolding workNeeded
-few n h = let l = leb-true n 720 (both (leb 1 n) (leb n 720) h .1) in le-leb (workNeeded n) (workNeeded 720) (omega arith)
+few : (n : ℕ) → (leb 1 n && leb n 720) ≡ true → leb (workNeeded n) 720 ≡ true
+few n h = enough n 720 (leb-true n 720 (both (leb 1 n) (leb n 720) h .1))
 
 module _ (k step : ℕ) (floor : Float) (a b : List Float) (room : ℕ) where
   abbrev both-rows : Said (Unit {0})
@@ -102,21 +102,21 @@ module _ (k step : ℕ) (floor : Float) (a b : List Float) (room : ℕ) where
   unfolding rowsChecked lengthsTaken alike checked
   unequal r none f e h = h ∙ rw (e, eq-eqb (length a) (length a) refl, ne-eqb (length b) (length a) (λ (h : length b ≡ length a). f (sym h)))
 
-  module _ (same : length a ≡ length b) (r : Checked) (second : checkSaid r ≡ checked k step floor b (workNeeded 720) pass) where
+  module _ (same : length a ≡ length b) (r : Checked) (second : checkSaid r ≡ checked k step floor b 720 pass) where
     -- what the second row is refused by, with room for any ring that is taken, both are
     pub second-refused : (w : Refusal) → r ≡ Wrong w → refused (number w) ≡ both-rows
     unfolding rowsChecked lengthsTaken alike entriesTaken checked
     second-refused w f =
         let n = length b in
         let o = leb 1 n && leb n 720 in
-        sym (rw (same, eq-eqb n n refl) (second-fails (hueCountTaken k) (chromaTaken floor) o (leb 1 step && leb step n) (every entryTaken a) (every entryTaken b) (leb (workNeeded n) room) (leb (workNeeded n) (workNeeded 720)) (number w) (few n) (sym second ∙ ap checkSaid f)))
+        sym (rw (same, eq-eqb n n refl) (second-fails (hueCountTaken k) (chromaTaken floor) o (leb 1 step && leb step n) (every entryTaken a) (every entryTaken b) (leb (workNeeded n) room) (leb (workNeeded n) 720) (number w) (few n) (sym second ∙ ap checkSaid f)))
 
     -- where it is not, both are refused by what the first is
     pub first-says : (first : Checked) → r ≡ Fine → checkSaid first ≡ checked k step floor a room pass → checkSaid first ≡ both-rows
     unfolding rowsChecked lengthsTaken alike entriesTaken checked
     first-says first f h =
         let n = length b in
-        let t = ring-passes k step floor n (leb 1 n && leb n 720) (every entryTaken b) (workNeeded 720) (sym second ∙ ap checkSaid f) in
+        let t = ring-passes k step floor n (leb 1 n && leb n 720) (every entryTaken b) 720 (sym second ∙ ap checkSaid f) in
         h ∙ rw (same, eq-eqb n n refl, first-left (every entryTaken a) (every entryTaken b) (t .4))
 
 -- two rows that are alike are of one length

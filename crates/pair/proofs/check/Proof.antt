@@ -2,7 +2,6 @@
 use mathlib.Core.Path.{refl}
 use denote.Ref.{now}
 use borrow.Author.Needs.{needs}
-use Rattle.placement_rules.specs.Placing.{workNeeded}
 use Rattle.pair.proofs.Checking.{unequal, second-refused, first-says}
 use Rattle.pair.proofs.check.Statement.{statement}
 use Rattle.pair.proofs.check.Tie as tie
@@ -37,14 +36,12 @@ check-requires-3 : tie.Need-check-requires-3
 check-requires-3 c κs = search needs
 
 returns-2 : tie.Need-returns-2
-unfolding workNeeded
 returns-2 c =
     let k = c .before .before .before in
     let a = k .before .before .before .before .args in
     second-refused (a .k) (a .step) (a .floor) (now (a .a)) (now (a .b)) (a .room) (k .before .if1 .left) (k .check2 .result) (k .check2 .ensures) (c .before .second .given .0 .0) (c .before .second .given .1)
 
 returns-3 : tie.Need-returns-3
-unfolding workNeeded
 returns-3 c =
     let k = c .before .before .before in
     let a = k .before .before .before .before .args in
