@@ -8,7 +8,7 @@ use native.Mathlib.Omega.{arith}
 use lib.Dec.{leb, eqb}
 use lib.Ieee.{Float}
 use lib.ListN.{length}
-use borrow.Author.Tests.{leb-true, le-leb, eqb-true, eq-eqb, ne-eqb}
+use borrow.Author.Tests.{leb-true, eqb-true, eq-eqb, ne-eqb}
 use Rattle.limits.specs.Answers.{Said, value, refused, fail, pass}
 use Rattle.limits.specs.Refusals.{number, checkSaid}
 use Rattle.limits.specs.declared.Refusal.{Refusal}

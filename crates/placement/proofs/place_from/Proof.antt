@@ -106,22 +106,33 @@ ahead-requires c κs =
 nowhere-requires-3 : tie.Need-nowhere-requires-3 Inv-loop μ-loop
 nowhere-requires-3 c κs = search needs
 
-returns-3 : tie.Need-returns-3 Inv-loop μ-loop
-returns-3 c =
-    let t = c .before in
-    let two = t .before .before in
-    let l = two .before .before in
-    let n = l .before .before .before .before .before in
-    let h = two .before .loop-test .taken in
-    let w = sizes l in
-    let g = two .if2 .left in
-    let row = n .args .m .now in
-    let stop = n .args .start + length row in
+-- once the table is read: from the stop on nothing is left, and below it one index more is taken
+read : (a : tie.After-ahead Inv-loop μ-loop)
+    → (let l = a .before .before .before in let s = l .before .before .before .before .before in let stop = s .args .start + length (s .args .m .now) in let rest = onward (allowedAt (s .args .m .now) (s .args .c)) (s .args .step) stop in let j = a .ahead .result in
+    (stop ≤ j → rest (s .args .k - l .loop .at) (l .loop .cur) ≡ nowhere) × (j < stop → (l .loop .cur + s .args .step ≤ j) × (rest (s .args .k - l .loop .at) (l .loop .cur) ≡ before j (rest (s .args .k - suc (l .loop .at)) j))))
+read a =
+    let l = a .before .before .before in
+    let s = l .before .before .before .before .before in
+    let row = s .args .m .now in
+    let ok = allowedAt row (s .args .c) in
+    let step = s .args .step in
+    let stop = s .args .start + length row in
     let cur = l .loop .cur in
-    let e : n .args .k - l .loop .at ≡ suc (n .args .k - (l .loop .at + 1)) = omega arith in
-    let st = in-one-round row (n .args .c) (cur + n .args .step) (t .before .ahead .result) (t .before .ahead .ensures) in
-    let none = none-left (allowedAt row (n .args .c)) (n .args .step) stop (n .args .k - (l .loop .at + 1)) cur (t .before .ahead .result) (cur + n .args .step + length row) (omega arith) (omega arith) st (t .if3 .taken) in
-    ended l (c .nowhere3 .result) (ap (λ (x : ℕ). onward (allowedAt row (n .args .c)) (n .args .step) stop x cur) e ∙ none) (c .nowhere3 .ensures)
+    let more = s .args .k - suc (l .loop .at) in
+    let j = a .ahead .result in
+    let is = a .ahead .ensures in
+    let w = sizes l in
+    let h = a .before .before .loop-test .taken in
+    let g = a .before .if2 .left in
+    let e : s .args .k - l .loop .at ≡ suc more = omega arith in
+    let stands = in-one-round row (s .args .c) (cur + step) j is in
+    let far : cur + step ≤ j = let b = from ok (length row) (cur + step) in omega arith in (
+      λ (p : stop ≤ j). ap (λ (x : ℕ). onward ok step stop x cur) e ∙ none-left ok step stop more cur j (cur + step + length row) (omega arith) (omega arith) stands p,
+      λ (u : j < stop). (far, ap (λ (x : ℕ). onward ok step stop x cur) e ∙ one-on ok step stop more cur j (cur + step + length row) (omega arith) (omega arith) stands u),
+    )
+
+returns-3 : tie.Need-returns-3 Inv-loop μ-loop
+returns-3 c = let a = c .before .before in ended (a .before .before .before) (c .nowhere3 .result) (read a .0 (c .before .if3 .taken)) (c .nowhere3 .ensures)
 
 reduce-requires : tie.Need-reduce-requires Inv-loop μ-loop
 reduce-requires c κs =
@@ -144,26 +155,18 @@ loop-less c = let h = c .before .before .before .before .loop-test .taken in ome
 
 loop-again : tie.Need-loop-again Inv-loop μ-loop
 loop-again c =
-    let three = c .before in
-    let two = three .before .before in
-    let l = two .before .before in
-    let n = l .before .before .before .before .before in
-    let h = two .before .loop-test .taken in
-    let w = sizes l in
-    let g = two .if2 .left in
-    let row = n .args .m .now in
-    let ok = allowedAt row (n .args .c) in
-    let stop = n .args .start + length row in
-    let cur = l .loop .cur in
+    let a = c .before .before in
+    let l = a .before .before .before in
+    let s = l .before .before .before .before .before in
+    let n = length (s .args .m .now) in
     let at = l .loop .at in
     let hues = l .loop .hues in
-    let j = three .before .ahead .result in
-    let u : j < stop = three .if3 .left in
-    let e : n .args .k - at ≡ suc (n .args .k - (at + 1)) = omega arith in
-    let is = three .before .ahead .ensures in
-    let st = in-one-round row (n .args .c) (cur + n .args .step) j is in
-    let far : cur + n .args .step ≤ j = let b = from ok (length row) (cur + n .args .step) in omega arith in
-    let on = one-on ok (n .args .step) stop (n .args .k - (at + 1)) cur j (cur + n .args .step + length row) (omega arith) (omega arith) st u in
+    let j = a .ahead .result in
+    let u : j < s .args .start + n = c .before .if3 .left in
+    let one = read a .1 u in
+    let far = one .0 in
+    let h = a .before .before .loop-test .taken in
+    let w = sizes l in
     let x : at + 1 ≡ suc at = omega arith in (
       omega arith,
       omega arith,
@@ -171,9 +174,7 @@ loop-again c =
       u,
       length-set hues at (c .reduce .result) ∙ l .loop .inv .4,
       rw (c .reduce .ensures, x)
-          (sym (store-one (length row) hues at j (onward ok (n .args .step) stop (n .args .k - suc at) j))
-          ∙ ap (λ (p : Places). stored (length row) hues at p) (sym (ap (λ (y : ℕ). onward ok (n .args .step) stop y cur) e ∙ on ∙ ap (λ (y : ℕ). before j (onward ok (n .args .step) stop (n .args .k - y) j)) x))
-          ∙ l .loop .inv .5),
+          (sym (store-one n hues at j (onward (allowedAt (s .args .m .now) (s .args .c)) (s .args .step) (s .args .start + n) (s .args .k - suc at) j)) ∙ ap (λ (p : Places). stored n hues at p) (sym (one .1)) ∙ l .loop .inv .5),
     )
 
 sub-if4 : tie.Need-sub-if4 Inv-loop μ-loop
