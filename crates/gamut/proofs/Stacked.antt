@@ -2,15 +2,15 @@
 use mathlib.Core.Path.{_≡_, refl, sym, ap, _∙_}
 use mathlib.Core.Bool.{true}
 use mathlib.Core.List.{List, [], _∷_, _++_}
-use Prim.Native.Nat.{ℕ, zero, suc, _+_, _*_, _/_, _≤_}
-use native.Mathlib.Nat.{suc-mul, mul-div-cancel}
+use Prim.Native.Nat.{ℕ, zero, suc, _+_, _*_, _≤_}
+use native.Mathlib.Nat.{suc-mul}
 use native.Mathlib.Omega.{arith}
 use lib.Ieee.{Float}
 use lib.ListN.{length, length-append}
 use Rattle.limits.specs.Each.{Each}
 use Rattle.limits.proofs.Lists.{each-append}
 use Rattle.gamut.specs.Table.{levelsIn, tableTaken}
-use Rattle.gamut.proofs.Table.{table-taken}
+use Rattle.gamut.proofs.Table.{table-taken, levels-by}
 
 abbrev pub stacked : ℕ → List Float → List Float
 stacked zero row = []
@@ -29,8 +29,7 @@ module _ (row : List Float) (long : length row ≡ 720) where
       length-append row (stacked n row) ∙ omega arith
 
   pub stacked-levels : (n : ℕ) → levelsIn (stacked n row) ≡ n
-  unfolding levelsIn
-  stacked-levels n = ap (λ (x : ℕ). x / 720) (stacked-long n) ∙ mul-div-cancel n (omega arith)
+  stacked-levels n = levels-by (stacked n row) n (stacked-long n)
 
   pub stacked-taken : (n : ℕ) → 1 ≤ n → n ≤ 169 → tableTaken (stacked n row) ≡ true
   stacked-taken n some few =

@@ -1,10 +1,10 @@
--- The shape of a table that is taken (`levelled`), and its rows: how long they are, which of the table's entries theirs are, that they are taken where the table's are, and that
+-- The shape of a table that is taken (`levelled`), how many levels a table of whole rows has (`levels-by`), and its rows: how long they are, which of the table's entries theirs are, that they are taken where the table's are, and that
 -- they are f32 where the table's are. Assumes nothing.
 use mathlib.Core.Path.{_≡_, ap, _∙_}
 use mathlib.Core.Bool.{Bool, true, _&&_}
 use mathlib.Core.List.{List}
-use Prim.Native.Nat.{ℕ, suc, _+_, _-_, _*_, _≤_, _<_}
-use native.Mathlib.Nat.{mul-le-mul-right, suc-mul, min-eq-left}
+use Prim.Native.Nat.{ℕ, suc, _+_, _-_, _*_, _/_, _≤_, _<_}
+use native.Mathlib.Nat.{mul-le-mul-right, suc-mul, mul-div-cancel, min-eq-left}
 use native.Mathlib.Omega.{arith}
 use lib.Dec.{leb, eqb}
 use lib.Ieee.{Float, nan}
@@ -36,6 +36,11 @@ unfolding tableTaken
 table-taken table h =
     let n = levelsIn table in
     rw (eq-eqb (length table) (n * 720) (h .long), le-leb 1 n (h .some-level), le-leb n 169 (h .few-levels))
+
+-- a table of n rows has n levels
+pub levels-by : (table : List Float) (n : ℕ) → length table ≡ n * 720 → levelsIn table ≡ n
+unfolding levelsIn
+levels-by table n long = ap (λ (x : ℕ). x / 720) long ∙ mul-div-cancel n (omega arith)
 
 -- ---- its rows
 pub row-long : (table : List Float) (n i : ℕ) → length table ≡ n * 720 → i < n → length (rowAt table i) ≡ 720
