@@ -497,6 +497,8 @@ fn search_refusals() {
         (1, &table[..], 17, GAP, room),
         (2, &table, 2, f32::NAN, room),
         (2, &table, 2, -0.0, room),
+        (2, &table, 2, 0.0, room),
+        (2, &table, 2, GAP.next_down(), room),
         (6, &table[1..], 2, GAP, room),
         (6, &[], 2, GAP, room),
         (7, &bad, 2, GAP, room),

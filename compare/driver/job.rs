@@ -1,4 +1,6 @@
-//! The job by document 01's rule, and the whole search of the published file.
+//! The job by the rules of documents 01 and 02, and the whole search of the published file. A new
+//! job is one that a start begins; a kept one was begun by document 01's start, which took smaller
+//! gaps too.
 
 use crate::cases::word;
 use crate::chroma::l_of;
@@ -10,14 +12,16 @@ use crate::standins::{DIRECTIONS, LEVELS};
 /// Refusals: the hue count, the gap, the table's length, an entry, the work buffer, a finished
 /// job, a broken record.
 pub const BAD_HUE_COUNT: u32 = 1;
-const BAD_GAP: u32 = 2;
+pub const BAD_GAP: u32 = 2;
 pub const BAD_TABLE: u32 = 6;
 pub const BAD_ENTRY: u32 = 7;
 pub const BAD_WORK: u32 = 8;
-const FINISHED: u32 = 14;
-const BROKEN: u32 = 15;
+pub const FINISHED: u32 = 14;
+pub const BROKEN: u32 = 15;
 /// The least chroma that a palette may have.
 pub const FLOOR: f32 = 35.0;
+/// The least gap that a new job may have.
+pub const LEAST_GAP: f32 = 40.0;
 /// How long a work buffer must be: one lap.
 pub const ROOM: usize = DIRECTIONS;
 
@@ -32,9 +36,14 @@ pub struct Job {
     pub hues: [u16; 16],
 }
 
-/// Whether a gap is taken.
-fn takes_gap(v: f32) -> bool {
+/// Whether a record may have this gap, and a best with one hue fixed be asked for with it.
+pub fn takes_gap(v: f32) -> bool {
     !v.is_nan() && v.is_sign_positive() && v <= 84.0
+}
+
+/// Whether a new job may have this gap.
+fn starts_gap(v: f32) -> bool {
+    takes_gap(v) && v >= LEAST_GAP
 }
 
 /// Sixteen hues, zeros after the given ones.
@@ -93,6 +102,11 @@ impl Job {
             && self.hues.iter().enumerate().all(held)
     }
 
+    /// Whether this is a record that no start gives, but that document 01's gave or led to.
+    pub fn is_kept(&self) -> bool {
+        self.is_whole() && !starts_gap(self.gap)
+    }
+
     /// The dark and the light level index of the next pair.
     fn next_pair(&self) -> [u32; 2] {
         [self.position / self.levels, self.position % self.levels]
@@ -125,10 +139,10 @@ pub fn whole_rows(table: &[f32]) -> bool {
     table.len() == levels * DIRECTIONS && (1..=LEVELS).contains(&levels)
 }
 
-/// The number of the first refusal of a gap and a whole table.
-pub fn table_refusal(gap: f32, table: &[f32]) -> Option<u32> {
+/// The number of the first refusal of a gap, which is taken or not, and a whole table.
+pub fn table_refusal(gap_taken: bool, table: &[f32]) -> Option<u32> {
     let asked = [
-        (BAD_GAP, takes_gap(gap)),
+        (BAD_GAP, gap_taken),
         (BAD_TABLE, whole_rows(table)),
         (BAD_ENTRY, table.iter().copied().all(takes)),
     ];
@@ -138,12 +152,12 @@ pub fn table_refusal(gap: f32, table: &[f32]) -> Option<u32> {
         .map(|(number, _)| *number)
 }
 
-/// A start: the job after it, or the number of its refusal.
-pub fn start(k: u32, gap: f32, table: &[f32]) -> Result<Job, u32> {
+/// A start with a gap that is taken or not: the job after it, or the number of its refusal.
+fn started(k: u32, gap: f32, gap_taken: bool, table: &[f32]) -> Result<Job, u32> {
     if !(1..=16).contains(&k) {
         return Err(BAD_HUE_COUNT);
     }
-    if let Some(number) = table_refusal(gap, table) {
+    if let Some(number) = table_refusal(gap_taken, table) {
         return Err(number);
     }
     Ok(Job {
@@ -154,6 +168,21 @@ pub fn start(k: u32, gap: f32, table: &[f32]) -> Result<Job, u32> {
         best: None,
         hues: [0; 16],
     })
+}
+
+/// A start: the job after it, or the number of its refusal.
+pub fn start(k: u32, gap: f32, table: &[f32]) -> Result<Job, u32> {
+    started(k, gap, starts_gap(gap), table)
+}
+
+/// Document 01's start: the job after it, or the number of its refusal.
+pub fn began(k: u32, gap: f32, table: &[f32]) -> Result<Job, u32> {
+    started(k, gap, takes_gap(gap), table)
+}
+
+/// The kept job of document 01's start, where a start is refused for its gap alone.
+pub fn kept(k: u32, gap: f32, table: &[f32]) -> Option<Job> {
+    began(k, gap, table).ok().filter(Job::is_kept)
 }
 
 /// The number of the first refusal of a step, in the order of document 01; entries are asked for
@@ -201,26 +230,33 @@ pub fn indices(levels: [f32; 2]) -> [u32; 2] {
     levels.map(|level| ((level - l_of(0)) * 2.0) as u32)
 }
 
-/// The job with which a whole search begins, or the number of its refusal.
-pub fn begun(k: u32, gap: f32, table: &[f32], room: usize) -> Result<Job, u32> {
-    let job = start(k, gap, table)?;
+/// The same answer where a work buffer of this length is long enough, and else number 8, unless it
+/// is a refusal already.
+pub fn in_room(answer: Result<Job, u32>, room: usize) -> Result<Job, u32> {
     if room < ROOM {
-        return Err(BAD_WORK);
+        return answer.and(Err(BAD_WORK));
     }
-    Ok(job)
+    answer
 }
 
-/// A whole search by the published file: the job after it, or the number of its refusal.
-pub fn search(k: u32, gap: f32, table: &[f32], room: usize) -> Result<Job, u32> {
-    let mut job = begun(k, gap, table, room)?;
+/// A job that has just begun, new or kept, after all of its steps: by the published search at its
+/// gap.
+pub fn ended(begun: Job, table: &[f32]) -> Job {
+    let mut job = begun;
     let gamut = pairing::over(job.levels as usize, DIRECTIONS, table.to_vec());
     job.position = job.pairs() as u32;
-    if let Some(solution) = pairing::search(&gamut, k as usize, gap) {
+    if let Some(solution) = pairing::search(&gamut, job.k as usize, job.gap) {
         let (chroma, levels, hues) = pairing::told(solution);
         let [dark, light] = indices(levels);
         job.best = Some((chroma, dark, light));
         // Hues lie half a degree apart, which is exact.
         job.hues = sixteen(hues.into_iter().map(|hue| (hue * 2.0) as usize));
     }
-    Ok(job)
+    job
+}
+
+/// A whole search by the published file: the job after it, or the number of its refusal.
+pub fn search(k: u32, gap: f32, table: &[f32], room: usize) -> Result<Job, u32> {
+    let begun = in_room(start(k, gap, table), room)?;
+    Ok(ended(begun, table))
 }

@@ -11,6 +11,7 @@ mod deriving; // derive and back_off, taken from the published file by compare/b
 mod findings;
 mod gamut;
 mod gamut_lists;
+mod gap_lists;
 mod job;
 mod level_set;
 mod level_set_lists;

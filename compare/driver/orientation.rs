@@ -2,7 +2,7 @@
 //! cases.
 
 use crate::cases::{line, word, wrong, Tally};
-use crate::job::{indices, table_refusal, FLOOR};
+use crate::job::{indices, table_refusal, takes_gap, FLOOR};
 use crate::pairing;
 use crate::search::{Searches, FEW_LEVELS};
 use crate::standins::DIRECTIONS;
@@ -77,7 +77,7 @@ fn greatest(table: &[f32], (gap, hue): Asked) -> Vec<Best> {
 /// The answer: the first refusal that applies, or what the published function gives.
 fn answer(table: &[f32], asked: Asked) -> Answer {
     let (gap, hue) = asked;
-    match table_refusal(gap, table) {
+    match table_refusal(takes_gap(gap), table) {
         Some(number) => Err(number),
         None if hue as usize >= DIRECTIONS => Err(BAD_HUE),
         None => Ok(published(table, asked)),

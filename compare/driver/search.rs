@@ -3,7 +3,7 @@
 use crate::cases::{head, line, word, wrong, REFUSALS};
 use crate::chroma::{l_of, max_chroma};
 use crate::gamut::digest;
-use crate::job::{self, Job, ROOM};
+use crate::job::{self, Job, FINISHED, ROOM};
 use crate::rooms::{sides, Rooms};
 use crate::standins::{directions, DIRECTIONS, LEVELS};
 use std::io::{self, Write};
@@ -12,9 +12,12 @@ use std::io::{self, Write};
 pub const STORED: usize = (LEVELS + 1) * DIRECTIONS;
 /// How many entries one line can set.
 pub const ENTRIES_A_LINE: usize = 23;
-/// How many levels a table has at most whose search is held to its steps, and its best with a hue
-/// fixed to a second working-out.
+/// How many levels a table has at most whose kept jobs are looked through for a later pair that
+/// reaches the best chroma again, and whose best with a hue fixed is held to a second working-out.
 pub const FEW_LEVELS: u32 = 12;
+/// How many levels a table has at most whose search is held to its steps: few pairs of them lie far
+/// enough apart for a new job.
+const SOME_LEVELS: u32 = 100;
 
 /// Whether two slices have the same bits.
 fn equal(a: &[f32], b: &[f32]) -> bool {
@@ -37,6 +40,42 @@ fn said(answer: Result<Job, u32>, field: usize) -> Vec<u32> {
     said
 }
 
+/// What whole searches or kept jobs ended with: how many found something and how many nothing, and
+/// in how many of those that are looked through a later pair reaches the best chroma again.
+#[derive(Default)]
+struct Ends {
+    found: u64,
+    nothing: u64,
+    again: u64,
+}
+
+impl Ends {
+    /// Counts one.
+    fn count(&mut self, job: Job, again: bool) {
+        self.found += u64::from(job.best.is_some());
+        self.nothing += u64::from(job.best.is_none());
+        self.again += u64::from(again);
+    }
+
+    /// Writes them; looked through are those over at most so many levels.
+    fn write(&self, out: &mut dyn Write, what: &str, levels: u32) -> io::Result<()> {
+        writeln!(
+            out,
+            "# {what}: {} found, {} none; in {} of those over at most {levels} levels a later pair reaches the best chroma again.",
+            self.found, self.nothing, self.again
+        )
+    }
+}
+
+/// How many starts and searches are refused for a gap that is too small and nothing else, how many
+/// of them are lent a kept job, and how many that are lent one are accepted.
+#[derive(Default)]
+struct Beginnings {
+    small: u64,
+    small_over_kept: u64,
+    accepted_over_kept: u64,
+}
+
 /// The rows of every level in these directions.
 pub fn panel(cos: &[f32], sin: &[f32]) -> Vec<f32> {
     let entry = |level: usize, j: usize| max_chroma(l_of(level), cos[j], sin[j]);
@@ -53,10 +92,11 @@ pub struct Searches<'a> {
     rooms: Rooms,
     job: Job,
     accepted: u64,
+    of_kept: u64,
     refused: u64,
-    found: u64,
-    nothing: u64,
-    again: u64,
+    searches: Ends,
+    kept: Ends,
+    beginnings: Beginnings,
 }
 
 impl Searches<'_> {
@@ -87,10 +127,11 @@ impl Searches<'_> {
                 hues: [0; 16],
             },
             accepted: 0,
+            of_kept: 0,
             refused: 0,
-            found: 0,
-            nothing: 0,
-            again: 0,
+            searches: Ends::default(),
+            kept: Ends::default(),
+            beginnings: Beginnings::default(),
         })
     }
 
@@ -214,6 +255,8 @@ impl Searches<'_> {
         match answer {
             Ok(job) => {
                 self.accepted += 1;
+                // Neither a start nor a search gives one.
+                self.of_kept += u64::from(job.is_kept());
                 self.job = job;
             }
             Err(_) => self.refused += 1,
@@ -278,12 +321,32 @@ impl Searches<'_> {
         self.wrong("search", &input, (answer, 3), change)
     }
 
-    /// Writes a start.
-    pub fn start(&mut self, k: u32, gap: f32) -> io::Result<()> {
+    /// Counts a start or a search with this answer before it is taken.
+    fn begins(&mut self, k: u32, gap: f32, answer: Result<Job, u32>) {
+        let small = u64::from(job::kept(k, gap, self.table()).is_some());
+        let over_kept = u64::from(self.job.is_kept());
+        self.beginnings.small += small;
+        self.beginnings.small_over_kept += small * over_kept;
+        self.beginnings.accepted_over_kept += u64::from(answer.is_ok()) * over_kept;
+    }
+
+    /// Writes a start and nothing after it.
+    pub fn start_alone(&mut self, k: u32, gap: f32) -> io::Result<()> {
         let answer = job::start(k, gap, self.table());
+        self.begins(k, gap, answer);
         let mut words = vec![k, word(gap)];
         words.extend(self.answered(answer, 2));
         line(self.out, "start", &words)
+    }
+
+    /// Writes a start; where its gap alone is refused, being too small, the next call is lent the
+    /// kept job.
+    pub fn start(&mut self, k: u32, gap: f32) -> io::Result<()> {
+        self.start_alone(k, gap)?;
+        match job::kept(k, gap, self.table()) {
+            Some(kept) => self.lend(kept),
+            None => Ok(()),
+        }
     }
 
     /// Writes a step in a work buffer of each of these lengths; each is lent the same job.
@@ -347,16 +410,37 @@ impl Searches<'_> {
         (answers, words)
     }
 
-    /// Writes a start and all of its steps, with one more that is refused.
+    /// Writes a start and all steps of the job that it begins, or of the kept job, with one more
+    /// that is refused; they must end in what the published search gives.
     pub fn run(&mut self, k: u32, gap: f32) -> io::Result<()> {
+        let begun = job::began(k, gap, self.table()).expect("a start");
         self.start(k, gap)?;
-        self.steps(self.job.pairs() as usize + 1)
+        self.steps(begun.pairs() as usize + 1)?;
+        let ended = job::ended(begun, self.table());
+        self.hold(ended);
+        if begun.is_kept() {
+            let again = self.reached_again(ended, FEW_LEVELS);
+            self.kept.count(ended, again);
+        }
+        Ok(())
     }
 
-    /// Whether a later pair reaches the best chroma again; the steps must end in this job.
-    fn reached_again(&self, ended: Job) -> bool {
+    /// Holds the job that the last call left to this one.
+    fn hold(&self, ended: Job) {
+        assert!(
+            self.job.words() == ended.words(),
+            "a job ends otherwise than the search"
+        );
+    }
+
+    /// Whether a later pair reaches the best chroma again; the steps must end in this job. A job
+    /// over more than so many levels is not looked through.
+    fn reached_again(&self, ended: Job, levels: u32) -> bool {
+        if ended.levels > levels {
+            return false;
+        }
         let mut again = false;
-        let mut job = job::start(ended.k, ended.gap, self.table()).expect("a start");
+        let mut job = job::began(ended.k, ended.gap, self.table()).expect("a start");
         while u64::from(job.position) < job.pairs() {
             let next = job::step(self.table(), ROOM, job).expect("a step");
             let chroma = |job: &Job| job.best.map(|(chroma, ..)| chroma);
@@ -371,21 +455,16 @@ impl Searches<'_> {
         again
     }
 
-    /// Counts a whole search by the job after it.
-    fn count(&mut self, job: Job) {
-        self.found += u64::from(job.best.is_some());
-        self.nothing += u64::from(job.best.is_none());
-        if job.levels <= FEW_LEVELS {
-            self.again += u64::from(self.reached_again(job));
-        }
-    }
-
-    /// Writes a whole search in a work buffer of each of these lengths.
-    pub fn search_in(&mut self, k: u32, gap: f32, rooms: &[usize]) -> io::Result<()> {
+    /// Writes a whole search in a work buffer of each of these lengths and nothing after it.
+    pub fn search_alone(&mut self, k: u32, gap: f32, rooms: &[usize]) -> io::Result<()> {
+        let start = job::start(k, gap, self.table());
+        let ended = start.map(|begun| job::ended(begun, self.table()));
+        let again = ended.is_ok_and(|ended| self.reached_again(ended, SOME_LEVELS));
         for room in rooms {
-            let answer = job::search(k, gap, self.table(), *room);
+            let answer = job::in_room(ended, *room);
+            self.begins(k, gap, answer);
             if let Ok(job) = answer {
-                self.count(job);
+                self.searches.count(job, again);
             }
             let mut words = vec![k, word(gap), *room as u32];
             words.extend(self.answered(answer, 3));
@@ -394,9 +473,49 @@ impl Searches<'_> {
         Ok(())
     }
 
-    /// Writes a whole search with the rooms that the list gives it.
+    /// Writes a kept job run to its end in a work buffer of each of these lengths: all steps but the
+    /// last in one line, and the last; they must end in what the published search gives. In one that
+    /// is too short the first step is refused. At last there is one step more, of the finished job;
+    /// where all are too short the next call is lent the job from before.
+    fn run_kept(&mut self, kept: Job, rooms: &[usize]) -> io::Result<()> {
+        let before = self.job;
+        let ended = job::ended(kept, self.table());
+        let again = self.reached_again(ended, FEW_LEVELS);
+        for room in rooms {
+            self.lend_again(kept)?;
+            if *room < ROOM {
+                self.step_in(&[*room])?;
+                continue;
+            }
+            if kept.pairs() > 1 {
+                self.steps_in(kept.pairs() as usize - 1, &[*room])?;
+            }
+            self.step_in(&[*room])?;
+            self.hold(ended);
+            self.kept.count(ended, again);
+        }
+        if self.job.words() != ended.words() {
+            return self.lend_again(before);
+        }
+        let number = job::step_refusal(self.table(), ROOM, &self.job);
+        assert!(number == Some(FINISHED), "a finished job goes on");
+        self.step_in(&[ROOM])
+    }
+
+    /// Writes a whole search in a work buffer of each of these lengths; where its gap alone is
+    /// refused, being too small, the kept job is run to its end in them.
+    pub fn search_in(&mut self, k: u32, gap: f32, rooms: &[usize]) -> io::Result<()> {
+        self.search_alone(k, gap, rooms)?;
+        match job::kept(k, gap, self.table()) {
+            Some(kept) => self.run_kept(kept, rooms),
+            None => Ok(()),
+        }
+    }
+
+    /// Writes a whole search with the rooms that the list gives it, or the kept job after it.
     pub fn search(&mut self, k: u32, gap: f32) -> io::Result<()> {
-        let refused = sides(ROOM).map(|room| job::begun(k, gap, self.table(), room).err());
+        let began = job::began(k, gap, self.table());
+        let refused = sides(ROOM).map(|room| job::in_room(began, room).err());
         let rooms = self.rooms.next(ROOM, refused);
         self.search_in(k, gap, &rooms)
     }
@@ -405,13 +524,19 @@ impl Searches<'_> {
     pub fn end(&mut self) -> io::Result<()> {
         writeln!(
             self.out,
-            "# Answers: {} accepted, {} refused.",
-            self.accepted, self.refused
+            "# Answers: {} accepted, {} of them steps of kept jobs, {} refused.",
+            self.accepted, self.of_kept, self.refused
         )?;
+        self.searches
+            .write(self.out, "Whole searches", SOME_LEVELS)?;
+        self.kept
+            .write(self.out, "Kept jobs run to their end", FEW_LEVELS)?;
         writeln!(
             self.out,
-            "# Whole searches: {} found, {} none; in {} of those over at most {FEW_LEVELS} levels a later pair reaches the best chroma again.",
-            self.found, self.nothing, self.again
+            "# Starts and searches refused for a gap below 40 alone: {}, {} of them lent a kept job; {} that were lent one were accepted.",
+            self.beginnings.small,
+            self.beginnings.small_over_kept,
+            self.beginnings.accepted_over_kept
         )
     }
 }

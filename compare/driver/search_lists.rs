@@ -1,6 +1,7 @@
 //! Which cases the lists of search cases hold.
 
-use crate::job::{Job, FLOOR, ROOM};
+use crate::gap_lists;
+use crate::job::{Job, FLOOR, LEAST_GAP, ROOM};
 use crate::level_set_lists;
 use crate::lists::step as float_step;
 use crate::orientation_lists;
@@ -12,7 +13,7 @@ use crate::standins::{DIRECTIONS, LEVELS};
 use crate::wrong_lists;
 use std::io::{self, Write};
 
-/// Gaps that are refused.
+/// Gaps that are refused, and that no record may have.
 pub const BAD_GAPS: [f32; 7] = [
     f32::NAN,
     -0.0,
@@ -22,6 +23,9 @@ pub const BAD_GAPS: [f32; 7] = [
     f32::INFINITY,
     f32::NEG_INFINITY,
 ];
+/// Gaps that are refused to a new job, and that a record may have; the greatest of them.
+pub const SMALL_GAPS: [f32; 5] = [0.0, 1e-45, 0.5, 39.5, SMALL];
+pub const SMALL: f32 = LEAST_GAP.next_down();
 /// Hue counts that are refused, one of which is taken where its high bits get lost.
 pub const BAD_COUNTS: [u32; 4] = [0, 17, u32::MAX, 257];
 /// Lengths of a table at and beyond the ends of what is taken, and at and beside those of a row.
@@ -74,18 +78,21 @@ pub fn fixed(out: &mut dyn Write) -> io::Result<()> {
     for levels in 1..=12 {
         for kind in 0..CHEAP {
             random_table(&mut list, &mut random, kind, levels)?;
-            random_calls(&mut list, &mut random, 9)?;
+            random_calls(&mut list, &mut random, random_gap, 9)?;
         }
     }
+    gap_lists::fixed(&mut list)?;
     whole_panel(&mut list)?;
     wrong_lists::searches(&mut list)?;
     list.end()?;
+    // How many calls there are above does not move the rooms of the parts after them.
+    *list.rooms() = Rooms::InTurn(4);
     orientation_lists::fixed(&mut list)?;
     level_set_lists::fixed(&mut list)
 }
 
-/// Writes a random list of at least this many calls, 24 or more over the same table, of which
-/// the levels go from 1 to 12 in turn.
+/// Writes a random list of at least this many calls, 24 or more over the same table. By turns a
+/// table has 1 to 12 levels, for kept jobs, or 83 to 100, for new ones.
 pub fn many(out: &mut dyn Write, seed: u64, count: usize) -> io::Result<()> {
     let command = format!("search-many {seed} {count}");
     let mut list = Searches::begin(out, &command, Rooms::of_seed(seed))?;
@@ -93,10 +100,17 @@ pub fn many(out: &mut dyn Write, seed: u64, count: usize) -> io::Result<()> {
     let mut left = count;
     while left > 0 {
         let turn = (count - left) / 24;
-        let kind = random.below(KINDS);
-        random_table(&mut list, &mut random, kind, turn % 12 + 1)?;
         let some = left.min(24);
-        random_calls(&mut list, &mut random, some)?;
+        if turn % 2 == 0 {
+            let kind = random.below(KINDS);
+            random_table(&mut list, &mut random, kind, turn / 2 % 12 + 1)?;
+            random_calls(&mut list, &mut random, random_gap, some)?;
+        } else {
+            let kind = random.below(CHEAP);
+            gap_lists::random_table(&mut list, &mut random, kind, turn / 2 % 18 + 83)?;
+            random_calls(&mut list, &mut random, gap_lists::random_gap, some)?;
+        }
+        gap_lists::over_kept(&mut list, &mut random)?;
         left -= some;
     }
     list.end()
@@ -148,12 +162,12 @@ fn starts(list: &mut Searches) -> io::Result<()> {
             } else {
                 2
             };
-            let gap = if set & 2 != 0 {
-                BAD_GAPS[(set + 3 * i) % 7]
+            if set & 2 != 0 {
+                list.start_alone(k, BAD_GAPS[(set + 3 * i) % 7])?;
+                list.start_alone(k, SMALL_GAPS[(set + 3 * i) % 5])?;
             } else {
-                0.5
-            };
-            list.start(k, gap)?;
+                list.start_alone(k, 40.5)?;
+            }
             list.more(last, &[50.0])?;
         }
     }
@@ -180,6 +194,7 @@ fn lengths(list: &mut Searches) -> io::Result<()> {
     ] {
         list.lend(MIDST)?;
         list.resize(n)?;
+        list.start(2, LEAST_GAP)?;
         list.start(2, 0.0)?;
         list.search(1, 83.5)?;
         list.step()?;
@@ -202,7 +217,7 @@ fn gaps_taken(list: &mut Searches) -> io::Result<()> {
 }
 
 /// The records with one field out of its range, made from one that has a best.
-fn damaged(job: Job) -> Vec<Job> {
+pub fn damaged(job: Job) -> Vec<Job> {
     let (chroma, dark, light) = job.best.expect("a best");
     let mut records = vec![];
     records.extend(BAD_COUNTS.map(|k| Job { k, ..job }));
@@ -347,6 +362,7 @@ fn passed_over(list: &mut Searches) -> io::Result<()> {
             list.resize(4 * DIRECTIONS)?;
         }
         list.search(2, 0.0)?;
+        list.search_in(2, LEAST_GAP, &[ROOM])?;
         list.lend(Job {
             position: 0,
             ..MIDST
@@ -367,18 +383,27 @@ fn searches_refused(list: &mut Searches) -> io::Result<()> {
         list.resize(4 * DIRECTIONS + usize::from(has(2)))?;
         list.more(720, &[if has(3) { REFUSED[set % 8] } else { 50.0 }])?;
         let k = if has(0) { BAD_COUNTS[set % 4] } else { 2 };
-        let gap = if has(1) { BAD_GAPS[set % 7] } else { 0.5 };
+        let gap = if has(1) { BAD_GAPS[set % 7] } else { 40.5 };
+        let short = ROOM - 1 - set;
         if has(4) {
-            list.search_in(k, gap, &[ROOM - 1 - set])?;
+            list.search_alone(k, gap, &[short])?;
         } else {
             list.search(k, gap)?;
+        }
+        if has(1) {
+            let room = if has(4) { short } else { ROOM };
+            list.search_alone(k, SMALL_GAPS[set % 5], &[room])?;
         }
         list.step()?;
     }
     list.resize(4 * DIRECTIONS)?;
     list.more(720, &[50.0])?;
-    list.search_in(2, 0.0, &edges(ROOM))?;
-    list.search_in(2, 0.0, &[2400])
+    list.search_in(2, 0.5, &laps(ROOM))?;
+    for gap in [0.0, LEAST_GAP] {
+        list.search_in(2, gap, &edges(ROOM))?;
+        list.search_in(2, gap, &[2400])?;
+    }
+    Ok(())
 }
 
 /// Tables of rows of one value in which many pairs reach the best chroma, by its bits or but for
@@ -511,6 +536,8 @@ fn whole_panel(list: &mut Searches) -> io::Result<()> {
 /// How many kinds of random tables there are, and how many of them take few lines.
 pub const KINDS: usize = 9;
 pub const CHEAP: usize = 7;
+/// The kind of a random table that has the panel's rows.
+pub const PANEL: usize = 6;
 
 /// A row of a few bands, each of one of these values.
 pub fn banded(random: &mut Random, values: &[f32]) -> Vec<f32> {
@@ -569,12 +596,17 @@ pub fn random_table(
     kind: usize,
     levels: usize,
 ) -> io::Result<()> {
-    if kind == 6 {
+    if kind == PANEL {
         list.panel(random.below(LEVELS - levels), levels)?;
         let at = random.below(levels * DIRECTIONS);
         let v = random.between(0.0, 200.0);
         return list.more(at, &[v]);
     }
+    list.set(&random_rows(random, kind, levels).concat())
+}
+
+/// The rows of a random table of this kind, but the panel's, and so many levels.
+pub fn random_rows(random: &mut Random, kind: usize, levels: usize) -> Vec<Vec<f32>> {
     let values = chromas(random);
     let others = random.below(levels) + 1;
     let kinds = [kind, if kind == 8 { 1 } else { kind }];
@@ -584,13 +616,12 @@ pub fn random_table(
             row(random, kind, level, &values)
         })
         .collect();
-    let table: Vec<Vec<f32>> = (0..levels)
+    (0..levels)
         .map(|level| match kind {
             3 | 4 => row(random, kind, level, &values),
             _ => rows[random.below(rows.len())].clone(),
         })
-        .collect();
-    list.set(&table.concat())
+        .collect()
 }
 
 /// A random gap: 0, a half-unit edge that a table of so many levels can have or the f32 next to
@@ -606,12 +637,18 @@ pub fn random_gap(random: &mut Random, levels: usize) -> f32 {
     }
 }
 
-/// Writes so many random calls over the table, and now and then a few more.
-fn random_calls(list: &mut Searches, random: &mut Random, some: usize) -> io::Result<()> {
+/// Writes so many random calls over the table, and now and then a few more, with the gaps that this
+/// gives for so many levels.
+pub fn random_calls(
+    list: &mut Searches,
+    random: &mut Random,
+    gap_for: fn(&mut Random, usize) -> f32,
+    some: usize,
+) -> io::Result<()> {
     let levels = list.table().len() / DIRECTIONS;
     for turn in 0..some {
         let k = random.below(16) as u32 + 1;
-        let gap = random_gap(random, levels);
+        let gap = gap_for(random, levels);
         match if turn == 0 { 0 } else { random.below(16) } {
             0 | 1 => list.start(k, gap)?,
             2 => list.start(random.pick(&BAD_COUNTS), gap)?,

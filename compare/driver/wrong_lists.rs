@@ -3,7 +3,8 @@
 
 use crate::cases::{word, List};
 use crate::gamut::{chroma_words, lightness_words, Lent};
-use crate::job::{Job, BAD_WORK, FLOOR, ROOM};
+use crate::gap_lists::even;
+use crate::job::{Job, BAD_GAP, BAD_WORK, BROKEN, FLOOR, LEAST_GAP, ROOM};
 use crate::level_set::LevelSets;
 use crate::lists::step as float_step;
 use crate::orientation::Orientations;
@@ -13,7 +14,7 @@ use crate::palettes::{Design, Palettes};
 use crate::placement::{Call, Placements};
 use crate::placement_lists::MARKED;
 use crate::search::Searches;
-use crate::search_lists::{flat, MIDST};
+use crate::search_lists::{flat, MIDST, SMALL};
 use crate::standins::LEVELS;
 use std::io;
 
@@ -148,23 +149,36 @@ pub fn pairs(list: &mut Pairs) -> io::Result<()> {
     Ok(())
 }
 
-/// Writes calls of which the number or one field of the job after it is another, and digests.
+/// Writes calls of which the number or one field of the job after it is another, and digests. The
+/// panel's rows stand at the end where they stood before, but for the first four.
 pub fn searches(list: &mut Searches) -> io::Result<()> {
+    wrong_searches(list)?;
+    list.panel(0, LEVELS)?;
     list.set(&flat(4, 50.0))?;
     wrong_starts(list)?;
     wrong_steps(list)?;
-    let whole = (16, 0.0, ROOM);
+    wrong_kept(list)
+}
+
+/// Writes whole searches over levels of which one pair is far enough apart for a new job, refused
+/// ones, and one with a gap that is too small.
+fn wrong_searches(list: &mut Searches) -> io::Result<()> {
+    even(list, 83, 50.0)?;
+    let whole = (16, LEAST_GAP, ROOM);
     for place in [3, 4, 5, 6, 7, 8, 23] {
         list.wrong_search(whole, off(place))?;
     }
-    list.wrong_search((17, 0.0, ROOM), put(3, 2))?;
-    list.wrong_search((17, 0.0, ROOM), put(3, 0))
+    list.wrong_search(whole, last(3, BAD_GAP))?;
+    list.wrong_search((17, LEAST_GAP, ROOM), put(3, 2))?;
+    list.wrong_search((17, LEAST_GAP, ROOM), put(3, 0))?;
+    list.wrong_search((16, SMALL, ROOM), put(3, 0))?;
+    list.wrong_search((16, SMALL, ROOM), |words| words.push(83 * 83))
 }
 
 /// Writes starts: one that is accepted and has no levels must leave the job that it was lent,
-/// which is another than the one begun in one field.
+/// which is another than the one begun in one field; and starts on both sides of the least gap.
 fn wrong_starts(list: &mut Searches) -> io::Result<()> {
-    let (k, gap) = (2, 0.5);
+    let (k, gap) = (2, 40.5);
     let begun = Job {
         k,
         gap,
@@ -201,7 +215,16 @@ fn wrong_starts(list: &mut Searches) -> io::Result<()> {
     list.wrong_start((k, gap), last(2, 6))?;
     list.wrong_start((k, gap), off(3))?;
     list.wrong_start((17, gap), put(2, 2))?;
-    list.wrong_start((17, gap), put(2, 0))
+    list.wrong_start((17, gap), put(2, 0))?;
+    let gap = LEAST_GAP;
+    list.lend(Job { gap, ..begun })?;
+    list.wrong_start((k, gap), last(2, BAD_GAP))?;
+    list.wrong_start((k, SMALL), put(2, 0))?;
+    list.wrong_start((k, SMALL), |words| words.push(4))?;
+    list.wrong_start((k, SMALL), |words| {
+        words[2] = 0;
+        words.push(4);
+    })
 }
 
 /// Writes steps: at a pair that is better than the best so far, at one too close together, refused
@@ -238,6 +261,23 @@ fn wrong_steps(list: &mut Searches) -> io::Result<()> {
     }
     list.lend(better)?;
     list.wrong_step(2 * ROOM, last(1, BAD_WORK))
+}
+
+/// Writes steps of kept jobs that are said to be refused for their gap or as broken, one finished
+/// among them.
+fn wrong_kept(list: &mut Searches) -> io::Result<()> {
+    for (gap, number) in [(0.0, BROKEN), (0.0, BAD_GAP), (SMALL, BROKEN)] {
+        list.lend(Job { gap, ..MIDST })?;
+        list.wrong_step(ROOM, last(1, number))?;
+    }
+    list.lend(Job {
+        position: 16,
+        ..MIDST
+    })?;
+    for number in [BROKEN, BAD_GAP] {
+        list.wrong_step(ROOM, put(1, number))?;
+    }
+    Ok(())
 }
 
 /// Writes calls with a hue fixed of which the number, the kind of the answer, the chroma, a level or

@@ -1,30 +1,24 @@
--- A search for two hues beside a call with one hue fixed, over the same table of f32 and with the same gap. Where the search hands out c, what the call hands out is at most the next
--- f32 after c (`fixed-within-limit`), and where the search says none, so does every call that is accepted (`none-with-a-hue`). Assumes nothing.
+-- A job for two hues with no pair left, a search or a kept one, beside a call with one hue fixed, over the same table of f32 and with the same gap. Where the job hands out c, what
+-- the call hands out is at most the next f32 after c (`fixed-within-limit`), and where the job says none, so does every call that is accepted (`none-with-a-hue`). Assumes nothing.
 use mathlib.Core.Path.{_≡_, sym, _∙_, subst}
 use mathlib.Core.Bool.{true}
 use mathlib.Core.List.{List, [], _∷_}
 use Prim.Native.Nat.{ℕ, _≤_}
 use lib.Ieee.{Float, le}
-use lib.ListN.{length}
 use Rattle.limits.specs.Answers.{value}
 use Rattle.limits.specs.Taken.{f32Of}
 use Rattle.limits.specs.Each.{Each, F32}
 use Rattle.halving.specs.Patterns.{next}
 use Rattle.search_rules.specs.declared.Best.the-variants.{None, Found}
 use Rattle.search_rules.specs.declared.Job.{Job}
-use Rattle.search_rules.specs.Job.{searchSays}
 use Rattle.orientation_rules.specs.Orientation.{Best, none, found, asked, orientationSays}
 use Rattle.orientation_rules.specs.Fixed.{Fixed, chromaOf}
 use Rattle.orientation_rules.proofs.Partners.{to-spaced}
 use Rattle.orientation_rules.proofs.Accepted.{orientation-only}
 use Rattle.orientation_rules.proofs.Meaning.{none-where, fixed-is-greatest}
 use Rattle.audit.specs.Panel.{Arrangement, HandsOut}
-use Rattle.audit.proofs.Panel.{search-is-limit}
 
-module _ (gap : Float) (t : List Float) (f32 : Each F32 t) (work : List ℕ) (j : Job) (searched : searchSays (asked gap) t (length work) ≡ value j) (hue : ℕ) where
-  hands-out : HandsOut t (asked gap) j
-  hands-out = search-is-limit (asked gap) t work j f32 searched
-
+module _ (gap : Float) (t : List Float) (f32 : Each F32 t) (j : Job) (hands-out : HandsOut t (asked gap) j) (hue : ℕ) where
   -- a qualifying pair with a partner of the fixed hue is an arrangement of two hues
   abbrev pub arranged : hue ≤ 719 → Fixed t gap hue → Arrangement t (asked gap)
   arranged H x = record {

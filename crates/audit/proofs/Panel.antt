@@ -1,8 +1,9 @@
 -- The auditor's questions. After any list of start and step calls over one table in which, since the last accepted start, every pair was gone through, what the job hands out is
--- the limit of the table for that start's settings to within one f32, and its none means that none exists (`stepped-is-limit`); and so it is for `search`, which is such a list
--- (`search-is-limit`). Both are demand 3 where no pair is left. Assumes nothing.
+-- the limit of the table for that start's settings to within one f32, and its none means that none exists (`stepped-is-limit`). So it is for `search`, which is such a list
+-- (`search-is-limit`), and for the job after any list, once it is run to its end (`run-to-end-is-limit`), a kept one among them (`kept-is-limit`). All are demand 3 where no
+-- pair is left. Assumes nothing.
 use mathlib.Core.Path.{_≡_, sym, _∙_, subst}
-use mathlib.Core.List.{List}
+use mathlib.Core.List.{List, _∷_, _++_}
 use Prim.Native.Nat.{ℕ, suc, _+_, _*_, _≤_, _<_}
 use native.Mathlib.Nat.{suc-mul, mul-le-mul-right}
 use native.Mathlib.Omega.{arith}
@@ -16,12 +17,13 @@ use Rattle.search_rules.specs.declared.Settings.{Settings}
 use Rattle.search_rules.specs.declared.Best.the-variants.{None, Found}
 use Rattle.search_rules.specs.declared.Job.{Job}
 use Rattle.search_rules.specs.Job.{searchSays}
-use Rattle.search_rules.specs.Runs.{Call, Choice, Promise, run, history, since, OverOneTable, wholeSearch}
-use Rattle.search_rules.specs.Accepted.{StartTaken}
+use Rattle.search_rules.specs.Runs.{Call, began, Choice, Promise, run, history, since, OverOneTable, steps, wholeSearch}
+use Rattle.search_rules.specs.Accepted.{StartTaken, RunsToEnd}
 use Rattle.search_rules.proofs.Rows.{Good}
 use Rattle.search_rules.proofs.Accepted.{search-only, good-table}
 use Rattle.search_rules.proofs.Goes.{all-accepted, search-is-run}
 use Rattle.search_rules.proofs.Runs.{whole-runs}
+use Rattle.search_rules.proofs.KeptJobs.{run-on, finishes}
 use Rattle.audit.specs.Panel.{Arrangement, HandsOut}
 
 module _ (s : Settings) (t : List Float) where
@@ -79,3 +81,15 @@ module _ (s : Settings) (t : List Float) where
       where
         same : (x : Job) → _≡_ {A = Said Job} (value x) (value j) → x ≡ j
         same x h = cc
+
+  -- ---- a job run to its end, from wherever the calls so far have left it
+  pub run-to-end-is-limit : (calls : List Call) (j : Job) → Each F32 t → OverOneTable t calls j → (n : ℕ) → history calls j ≡ since s n → (work : List ℕ) → 720 ≤ length work
+      → (e : RunsToEnd (run calls j) t work) × HandsOut t s (run (steps (e .left) t work) (run calls j))
+  run-to-end-is-limit calls j f32 over n so-far work room =
+      let (e, (gone-through, over')) = finishes t f32 calls j over s n so-far work room in
+      (e, subst (HandsOut t s) (run-on calls (steps (e .left) t work) j) (stepped-is-limit (calls ++ steps (e .left) t work) j f32 over' gone-through))
+
+  -- a kept one: document 01's start, and what calls came since, of which none began the job anew
+  pub kept-is-limit : (calls : List Call) (j : Job) → Each F32 t → OverOneTable t (began s t ∷ calls) j → (n : ℕ) → history (began s t ∷ calls) j ≡ since s n → (work : List ℕ) → 720 ≤ length work
+      → (e : RunsToEnd (run (began s t ∷ calls) j) t work) × HandsOut t s (run (steps (e .left) t work) (run (began s t ∷ calls) j))
+  kept-is-limit calls = run-to-end-is-limit (began s t ∷ calls)

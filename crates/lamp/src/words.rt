@@ -37,7 +37,7 @@ pub fn refusal(number: u8) {
     line(
         b"accepted
 the hue count is not from 1 to 16
-the gap is not from 0 to 84
+the gap is not from 40 to 84
 the chroma is not from 0 to 200
 the ring's length is not from 1 to 720
 the spacing is 0 or above the ring's length

@@ -5,11 +5,12 @@ ghost use mathlib.Core.Bool.{not};
 ghost use Rattle.limits.specs.Refusals.{number};
 ghost use Rattle.limits.specs.Taken.{outside, signClear, upTo, hueCountTaken, gapTaken, chromaTaken, entryTaken, directionTaken, rootOperandTaken, hueOperandTaken, every, directionsTaken};
 
-// Why a call was refused. The comment is document 01's number, from 18 on that of document 02, whose Req 04 words 8.
+// Why a call was refused. The comment is document 01's number, from 18 on that of document 02, whose Req 04 words 8 and whose Req 05
+// adds to 2.
 pub enum Refusal {
     // 1: hue count k not 1 to 16
     HueCount,
-    // 2: gap NaN, sign bit set, or above 84
+    // 2: gap NaN, sign bit set, or above 84; where a job is begun also below 40
     Gap,
     // 3: chroma NaN, sign bit set, or above 200
     Chroma,

@@ -12,22 +12,22 @@ use Rattle.limits.proofs.Checks.{passed, fine, wrong}
 use Rattle.gamut.proofs.Table.{Levelled, levelled}
 use Rattle.search_rules.specs.declared.Settings.{Settings}
 use Rattle.search_rules.specs.declared.Job.{Job}
-use Rattle.search_rules.specs.Job.{startChecked, stepChecked}
+use Rattle.search_rules.specs.Job.{gapStarts, startCheckedBy, startChecked, stepChecked}
 use Rattle.search_rules.proofs.Checking.{start-checks, step-checks, StepPassed, step-passed}
 
 -- ---- a start
 module _ (s : Settings) (table : List Float) (r : Checked) (says : checkSaid r ≡ startChecked s table pass) where
   pub start-fine : {A : Type 0} (x : Said A) → r ≡ Fine → startChecked s table x ≡ x
-  unfolding startChecked
-  start-fine x f = fine (start-checks s table) r says x f
+  unfolding startCheckedBy
+  start-fine x f = fine (start-checks gapStarts s table) r says x f
 
   pub start-wrong : {A : Type 0} (x : Said A) (w : Refusal) → r ≡ Wrong w → startChecked s table x ≡ refused (number w)
-  unfolding startChecked
-  start-wrong x w f = wrong (start-checks s table) r says x w f
+  unfolding startCheckedBy
+  start-wrong x w f = wrong (start-checks gapStarts s table) r says x w f
 
   pub start-levels : r ≡ Fine → Levelled table
-  unfolding startChecked
-  start-levels f = levelled table (passed (start-checks s table) r says f .1 .1 .0)
+  unfolding startCheckedBy
+  start-levels f = levelled table (passed (start-checks gapStarts s table) r says f .1 .1 .0)
 
 -- ---- a step
 module _ (j : Job) (size room : ℕ) (r : Checked) (says : checkSaid r ≡ stepChecked j size room pass) where

@@ -54,7 +54,8 @@ fn begin(settings: Settings, levels: usize) -> Job
     }
 }
 
-// Begins a search over a table. Nothing of the job that is lent is read; it is handed back where the call is refused.
+// Begins a search over a table, with a gap from 40 up. Nothing of the job that is lent is read; it is handed back where the call is
+// refused.
 pub fn start(settings: Settings, table: &[f32], job: Job) -> Outcome
     ensures { λ r. ⌜ Gives r job (startSays settings (now (table .entry))) ⌝ }
 {
@@ -170,7 +171,7 @@ fn go_through(table: &[f32], work: &mut [u16], job: Job, dark: usize, light: usi
     }
 }
 
-// One step of a search over the table that it was begun with. The job is handed back as it was where the call is refused, and so
+// One step of a search over the table that it was begun with, whatever gap it was begun with. The job is handed back as it was where the call is refused, and so
 // is the work buffer; else that buffer's content is left free, and does not matter.
 pub fn step(table: &[f32], work: &mut [u16], job: Job) -> Outcome
     ensures { λ r. ⌜ Gives r job (stepSays job (now (table .entry)) (length (now (work .entry)))) ⌝ }

@@ -9,7 +9,14 @@ use search_rules::Settings;
 ghost use mathlib.Core.Path.{_≡_};
 ghost use Rattle.limits.specs.Answers.{value};
 ghost use Rattle.limits.specs.Refusals.{checkSaid};
-ghost use Rattle.search_rules.specs.Job.{startChecked, bestHeld, handed, huesHeld, unbroken, stepChecked, qualifies};
+ghost use Rattle.search_rules.specs.Job.{gapStarts, startChecked, bestHeld, handed, huesHeld, unbroken, stepChecked, qualifies};
+
+// Whether a job may be begun with this gap: one that number 2 of document 01 takes, and from 40 up.
+fn starts_gap(gap: f32) -> bool
+    ensures { λ r. ⌜ r ≡ gapStarts gap ⌝ }
+{
+    limits::takes_gap(gap) && 40.0 <= gap
+}
 
 // The first refusal of a start, of 1, 2, 6 and 7 over the whole table.
 pub fn check_start(settings: Settings, table: &[f32]) -> Checked
@@ -18,7 +25,7 @@ pub fn check_start(settings: Settings, table: &[f32]) -> Checked
     if !limits::takes_hue_count(settings.k) {
         return Checked::Wrong(Refusal::HueCount);
     }
-    if !limits::takes_gap(settings.gap) {
+    if !starts_gap(settings.gap) {
         return Checked::Wrong(Refusal::Gap);
     }
     if !gamut::takes_table(table) {

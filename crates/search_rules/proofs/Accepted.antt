@@ -1,5 +1,5 @@
--- Start is accepted exactly on document 01's conditions, and so are step and search on these and Req 04's for number 8 (`start-exactly`, `step-exactly`, `search-exactly`).
--- Assumes nothing.
+-- Start, step and search are accepted exactly on document 01's conditions, with Req 04's for number 8 and Req 05's for number 2 (`start-exactly`, `step-exactly`,
+-- `search-exactly`), and document 01's start was exactly on document 01's (`began-exactly`). Assumes nothing.
 use mathlib.Core.Path.{_≡_, refl, sym, _∙_, subst}
 use mathlib.Core.Logic.{_↔_}
 use mathlib.Core.Bool.{Bool, true, false, _&&_, cond}
@@ -23,28 +23,48 @@ use Rattle.placement_rules.specs.Placing.{workNeeded}
 use Rattle.placement_rules.proofs.Room.{one-lap}
 use Rattle.search_rules.specs.declared.Settings.{Settings}
 use Rattle.search_rules.specs.declared.Job.{Job}
-use Rattle.search_rules.specs.Job.{begun, startChecked, startSays, qualifies, movedOn, afterPair, pairBest, searched, stepChecked, stepSays, stepsFrom, searchSays}
+use Rattle.search_rules.specs.Job.{gapStarts, gapHeld, begun, startCheckedBy, startChecked, startSays, beganSays, qualifies, movedOn, afterPair, pairBest, searched, stepChecked, stepSays, stepsFrom, searchSays}
 use Rattle.search_rules.specs.Runs.{FarApart}
-use Rattle.search_rules.specs.Accepted.{Accepted, EachTaken, StartTaken, Unbroken, StepTaken}
+use Rattle.search_rules.specs.Accepted.{Accepted, EachTaken, TakenWith, FromForty, StartTaken, FromZero, BeganTaken, Unbroken, StepTaken}
 use Rattle.search_rules.proofs.Apart.{far-apart, qualified}
+use Rattle.search_rules.proofs.Gaps.{start-gap, held-gap}
 use Rattle.search_rules.proofs.Checking.{start-checks, step-checks, step-passed, step-passes}
 use Rattle.search_rules.proofs.Unbroken.{unbroken-exactly}
 use Rattle.search_rules.proofs.Rows.{Good}
 
 -- ---- start
-module _ (s : Settings) (t : List Float) where
-  pub start-only : Accepted (startSays s t) → StartTaken s t
-  unfolding startSays startChecked
-  start-only a =
-      let f = all-pass (start-checks s t) (value (begun s (levelsIn t))) (a .0) (a .1) .0 in
-      let l = levelled t (f .1 .1 .0) in
-      record { hue-count = hue-count (s .k) (f .0); gap = f .1 .0; whole-levels = l .long; levels = (l .some-level, l .few-levels); entries = each-true entryTaken t (f .1 .1 .1 .0) }
+-- over its test of the gap, and what that asks
+module _ (gaps : Float → Bool) (Gap : Float → Type 0) (exactly : (gap : Float) → (gaps gap ≡ true) ↔ Gap gap) (s : Settings) (t : List Float) where
+  taken-only : {A : Type 0} (x : Said A) (v : A) → startCheckedBy gaps s t x ≡ value v → TakenWith Gap s t × (x ≡ value v)
+  unfolding startCheckedBy
+  taken-only x v e =
+      let f = all-pass (start-checks gaps s t) x v e in
+      let p = f .0 in
+      let l = levelled t (p .1 .1 .0) in
+      (record { hue-count = hue-count (s .k) (p .0); gap = exactly (s .gap) .0 (p .1 .0); whole-levels = l .long; levels = (l .some-level, l .few-levels); entries = each-true entryTaken t (p .1 .1 .1 .0) }, f .1)
 
-  pub start-passing : {A : Type 0} → StartTaken s t → (x : Said A) → startChecked s t x ≡ x
-  unfolding startChecked
-  start-passing h x =
-      said (start-checks s t) x
-      (count-taken (s .k) (h .hue-count), (h .gap, (table-taken t (record { long = h .whole-levels; some-level = h .levels .0; few-levels = h .levels .1 }), (every-true entryTaken t (h .entries), tt))))
+  taken-passing : {A : Type 0} → TakenWith Gap s t → (x : Said A) → startCheckedBy gaps s t x ≡ x
+  unfolding startCheckedBy
+  taken-passing h x =
+      said (start-checks gaps s t) x
+      (count-taken (s .k) (h .hue-count), (exactly (s .gap) .1 (h .gap), (table-taken t (record { long = h .whole-levels; some-level = h .levels .0; few-levels = h .levels .1 }), (every-true entryTaken t (h .entries), tt))))
+
+module _ (s : Settings) (t : List Float) where
+  -- the table of an accepted start, where its entries are f32
+  pub good-table : {Gap : Float → Type 0} → TakenWith Gap s t → Each F32 t → Good t
+  good-table h f32 = record {
+    levels-taken = table-taken t (record { long = h .whole-levels; some-level = h .levels .0; few-levels = h .levels .1 });
+    entries-taken = every-true entryTaken t (h .entries);
+    entries-f32 = f32;
+  }
+
+  -- ---- today's start
+  pub start-only : Accepted (startSays s t) → StartTaken s t
+  unfolding startSays
+  start-only a = taken-only gapStarts FromForty start-gap s t (value (begun s (levelsIn t))) (a .0) (a .1) .0
+
+  start-passing : {A : Type 0} → StartTaken s t → (x : Said A) → startChecked s t x ≡ x
+  start-passing = taken-passing gapStarts FromForty start-gap s t
 
   pub start-given : StartTaken s t → startSays s t ≡ value (begun s (levelsIn t))
   unfolding startSays
@@ -53,13 +73,24 @@ module _ (s : Settings) (t : List Float) where
   pub start-exactly : Accepted (startSays s t) ↔ StartTaken s t
   start-exactly = (start-only, λ (h : StartTaken s t). (begun s (levelsIn t), start-given h))
 
-  -- the table of an accepted start, where its entries are f32
-  pub good-table : StartTaken s t → Each F32 t → Good t
-  good-table h f32 = record {
-    levels-taken = table-taken t (record { long = h .whole-levels; some-level = h .levels .0; few-levels = h .levels .1 });
-    entries-taken = every-true entryTaken t (h .entries);
-    entries-f32 = f32;
-  }
+  -- ---- document 01's
+  pub began-only : Accepted (beganSays s t) → BeganTaken s t
+  unfolding beganSays
+  began-only a = taken-only gapHeld FromZero held-gap s t (value (begun s (levelsIn t))) (a .0) (a .1) .0
+
+  pub began-given : BeganTaken s t → beganSays s t ≡ value (begun s (levelsIn t))
+  unfolding beganSays
+  began-given h = taken-passing gapHeld FromZero held-gap s t h (value (begun s (levelsIn t)))
+
+  pub began-exactly : Accepted (beganSays s t) ↔ BeganTaken s t
+  began-exactly = (began-only, λ (h : BeganTaken s t). (begun s (levelsIn t), began-given h))
+
+  -- what today's start takes, document 01's took, with the same job
+  pub started-began : StartTaken s t → BeganTaken s t
+  started-began h = record { hue-count = h .hue-count; gap = h .gap .0; whole-levels = h .whole-levels; levels = h .levels; entries = h .entries }
+
+  pub start-began : (j : Job) → startSays s t ≡ value j → beganSays s t ≡ value j
+  start-began j e = let h = start-only (j, e) in began-given (started-began h) ∙ sym (start-given h) ∙ e
 
   -- ---- search: a start, and number 8
   module _ (room : ℕ) where
@@ -67,11 +98,11 @@ module _ (s : Settings) (t : List Float) where
     done = value (stepsFrom (levelsIn t * levelsIn t) (begun s (levelsIn t)) t room)
 
     pub search-only : Accepted (searchSays s t room) → StartTaken s t × (workNeeded 720 ≤ room)
-    unfolding searchSays startChecked startSays
+    unfolding searchSays
     search-only a =
-        let f = all-pass (start-checks s t) (cond (leb (workNeeded 720) room) done (refused 8)) (a .0) (a .1) in
+        let f = taken-only gapStarts FromForty start-gap s t (cond (leb (workNeeded 720) room) done (refused 8)) (a .0) (a .1) in
         let g = all-pass (check (leb (workNeeded 720) room) 8 ∷ []) done (a .0) (f .1) in
-        (start-only (begun s (levelsIn t), said (start-checks s t) (value (begun s (levelsIn t))) (f .0)), leb-true (workNeeded 720) room (g .0 .0))
+        (f .0, leb-true (workNeeded 720) room (g .0 .0))
 
     pub search-given : StartTaken s t → workNeeded 720 ≤ room → searchSays s t room ≡ done
     unfolding searchSays

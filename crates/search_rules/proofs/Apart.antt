@@ -104,7 +104,7 @@ negative-below (fin true m e) (fin false n d) a b c v h w =
     positive p x e h = omega arith
 
 -- ---- the f32 sum of the gap and 1 is a number, not negative
-own : (x : Float) (b : ℕ) → UpTo b x → (a : ℕ) × ((c : ℕ) × ((0 < c) × HasValue x false a c))
+pub own : (x : Float) (b : ℕ) → UpTo b x → (a : ℕ) × ((c : ℕ) × ((0 < c) × HasValue x false a c))
 own nan b u = absurd u
 own (inf s) b u = absurd u
 own (fin true m e) b u = absurd u
@@ -117,7 +117,7 @@ module _ (s : Settings) (held : gapHeld (s .gap) ≡ true) (d l : ℕ) (D : d < 
   abbrev apart : Float
   apart = sub binary32 (levelOf l) (levelOf d)
 
-  total-value : (a : ℕ) × ((c : ℕ) × ((0 < c) × HasValue total false a c))
+  pub total-value : (a : ℕ) × ((c : ℕ) × ((0 < c) × HasValue total false a c))
   unfolding gapTaken ofInt
   total-value = own total 168 (sum-up-to 84 (s .gap) (f32Of 1) (omega arith) (taken-up-to 84 (s .gap) (omega arith) held) (omega arith))
 

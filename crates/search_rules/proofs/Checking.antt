@@ -1,6 +1,6 @@
--- The checks of a start and of a step as lists, in the order in which they are made, and what those of a step say where all pass. Assumes nothing.
+-- The checks of a start, over its test of the gap, and of a step as lists, in the order in which they are made, and what those of a step say where all pass. Assumes nothing.
 use mathlib.Core.Path.{_≡_}
-use mathlib.Core.Bool.{true}
+use mathlib.Core.Bool.{Bool, true}
 use mathlib.Core.List.{List, [], _∷_}
 use Prim.Native.Nat.{ℕ, _*_, _≤_, _<_}
 use lib.Dec.{leb, ltb, eqb}
@@ -12,10 +12,10 @@ use Rattle.gamut.specs.Table.{tableTaken}
 use Rattle.placement_rules.specs.Placing.{workNeeded}
 use Rattle.search_rules.specs.declared.Settings.{Settings}
 use Rattle.search_rules.specs.declared.Job.{Job}
-use Rattle.search_rules.specs.Job.{gapStarts, unbroken}
+use Rattle.search_rules.specs.Job.{unbroken}
 
-abbrev pub start-checks : Settings → List Float → List Check
-start-checks s table = check (hueCountTaken (s .k)) 1 ∷ check (gapStarts (s .gap)) 2 ∷ check (tableTaken table) 6 ∷ check (every entryTaken table) 7 ∷ []
+abbrev pub start-checks : (Float → Bool) → Settings → List Float → List Check
+start-checks gaps s table = check (hueCountTaken (s .k)) 1 ∷ check (gaps (s .gap)) 2 ∷ check (tableTaken table) 6 ∷ check (every entryTaken table) 7 ∷ []
 
 abbrev pub step-checks : Job → ℕ → ℕ → List Check
 step-checks j size room = check (unbroken j) 15 ∷ check (ltb (j .position) (j .levels * j .levels)) 14 ∷ check (eqb size (j .levels * 720)) 6 ∷ check (leb (workNeeded 720) room) 8 ∷ []

@@ -1,33 +1,44 @@
 -- Lists of calls that meet what `whole-runs` asks: over a table of one row repeated, of any number of levels from 1 to 169, a start that takes its settings and all its steps
--- are accepted, from any job record (`any-levels`). With two hues, a gap of 0 and three levels of 50 that is nine steps (`hypotheses-met`). Assumes nothing.
+-- are accepted, from any job record (`any-levels`), and so are document 01's start and all its steps (`any-kept`). Two of them, with two hues: for a kept job a gap of 0 over
+-- three levels of 50 (`kept-met`), and for a new one a gap of 40 over 83 (`new-met`), the fewest over which a pair is far enough apart; in both there is something to choose
+-- (`kept-choice`, `new-choice`). Assumes nothing.
 use mathlib.Core.Path.{_≡_, refl, sym, subst}
 use mathlib.Core.Bool.{true}
-use mathlib.Core.List.{List}
-use Prim.Native.Nat.{ℕ, _*_, _≤_}
+use mathlib.Core.List.{List, [], _∷_}
+use Prim.Native.Nat.{ℕ, zero, suc, _*_, _≤_, _<_}
+use native.Mathlib.Nat.{mul-le-mul-right}
 use native.Mathlib.Omega.{arith}
 use lib.IntN.{pos}
-use lib.Ieee.{Float, binary32, ofInt, isNan, lt}
+use lib.Ieee.{Float, binary32, round, add, sub, mul, ofInt, isNan, lt, le, eq}
 use lib.Ieee.Fits.{ofInt-fits}
-use lib.ListN.{length, replicate, length-replicate}
+use lib.ListN.{length, getD, replicate, length-replicate}
 use Rattle.limits.specs.Taken.{f32Of, gapTaken, upTo, signClear, signBit, entryTaken}
 use Rattle.limits.specs.Each.{Each, F32}
 use Rattle.limits.proofs.Lists.{each-same, every-true}
+use Rattle.gamut.specs.Gamut.{levelOf}
 use Rattle.gamut.proofs.Table.{levelled}
 use Rattle.gamut.proofs.Stacked.{stacked, stacked-each, stacked-levels, stacked-taken}
-use Rattle.placement_rules.specs.Placing.{workNeeded}
+use Rattle.placement_rules.specs.Placing.{stepFor, workNeeded}
+use Rattle.placement_rules.specs.Spacing.{Apart}
+use Rattle.pair_rules.specs.Limit.{Hues}
 use Rattle.search_rules.specs.declared.Settings.{Settings}
 use Rattle.search_rules.specs.declared.Job.{Job}
-use Rattle.search_rules.specs.Job.{gapStarts}
-use Rattle.search_rules.specs.Runs.{since, history, OverOneTable, wholeSearch}
-use Rattle.search_rules.specs.Accepted.{Between, EachTaken, StartTaken}
+use Rattle.search_rules.specs.Job.{qualifies}
+use Rattle.search_rules.specs.Runs.{Call, start, began, since, history, OverOneTable, Choice, steps}
+use Rattle.search_rules.specs.Accepted.{Between, EachTaken, TakenWith, FromForty, FromZero}
+use Rattle.search_rules.proofs.Apart.{far-apart}
 use Rattle.search_rules.proofs.Rows.{Good}
-use Rattle.search_rules.proofs.Goes.{all-accepted}
+use Rattle.search_rules.proofs.Goes.{all-accepted, all-kept}
 
 abbrev pub work : List ℕ
 work = replicate (workNeeded 720) 0
 
 room : workNeeded 720 ≤ length work
 room = subst (λ (n : ℕ). workNeeded 720 ≤ n) (sym (length-replicate (workNeeded 720) 0)) (omega arith)
+
+-- this call, with so many steps behind it: all are accepted
+abbrev pub Met : Settings → List Float → Call → ℕ → Job → Type 0
+Met s t c n j = (history (c ∷ steps n t work) j ≡ since s n) × OverOneTable t (c ∷ steps n t work) j
 
 -- ---- a row that is taken, repeated
 module _ (row : List Float) (long : length row ≡ 720) (taken : EachTaken row) (f32 : Each F32 row) (n : ℕ) (some : 1 ≤ n) (few : n ≤ 169) where
@@ -40,27 +51,92 @@ module _ (row : List Float) (long : length row ≡ 720) (taken : EachTaken row) 
   good : Good table
   good = record { levels-taken = stacked-taken row long n some few; entries-taken = every-true entryTaken table entries; entries-f32 = stacked-each F32 n row f32 }
 
-  module _ (s : Settings) (count : Between 1 16 (s .k)) (gap : gapStarts (s .gap) ≡ true) where
-    startable : StartTaken s table
-    startable =
+  module _ (s : Settings) (count : Between 1 16 (s .k)) where
+    asked : (Gap : Float → Type 0) → Gap (s .gap) → TakenWith Gap s table
+    asked Gap gap =
         let l = levelled table (good .levels-taken) in
         record { hue-count = count; gap = gap; whole-levels = l .long; levels = (l .some-level, l .few-levels); entries = entries }
 
     -- n levels have n * n pairs, and all steps are accepted
-    pub any-levels : (j : Job) → (history (wholeSearch s table work) j ≡ since s (n * n)) × OverOneTable table (wholeSearch s table work) j
-    any-levels j =
-        subst (λ (m : ℕ). (history (wholeSearch s table work) j ≡ since s (m * m)) × OverOneTable table (wholeSearch s table work) j) (stacked-levels row long n)
-        (all-accepted table good work room s startable j)
+    pub any-levels : FromForty (s .gap) → (j : Job) → Met s table (start s table) (n * n) j
+    any-levels gap j = subst (λ (m : ℕ). Met s table (start s table) (m * m) j) (stacked-levels row long n) (all-accepted table good work room s (asked FromForty gap) j)
 
--- ---- two hues, a gap of 0, three levels of 50
-abbrev pub settings : Settings
-settings = record { k = 2; gap = f32Of 0 }
+    pub any-kept : FromZero (s .gap) → (j : Job) → Met s table (began s table) (n * n) j
+    any-kept gap j = subst (λ (m : ℕ). Met s table (began s table) (m * m) j) (stacked-levels row long n) (all-kept table good work room s (asked FromZero gap) j)
 
-abbrev pub fifty : List Float
-fifty = replicate 720 (f32Of 50)
+-- ---- two hues, levels of 50
+abbrev pub two-hues : Float → Settings
+two-hues gap = record { k = 2; gap = gap }
 
-pub hypotheses-met : (j : Job) → (history (wholeSearch settings (stacked 3 fifty) work) j ≡ since settings 9) × OverOneTable (stacked 3 fifty) (wholeSearch settings (stacked 3 fifty) work) j
-unfolding gapTaken entryTaken upTo signClear signBit isNan lt ofInt
-hypotheses-met j =
-    any-levels fifty (length-replicate 720 (f32Of 50)) (each-same (λ (x : Float). entryTaken x ≡ true) 720 (f32Of 50) refl) (each-same F32 720 (f32Of 50) (ofInt-fits binary32 (pos 50))) 3 (omega arith) (omega arith)
-    settings (omega arith, omega arith) refl j
+abbrev pub levels-of-50 : ℕ → List Float
+levels-of-50 n = stacked n (replicate 720 (f32Of 50))
+
+module _ (n : ℕ) (some : 1 ≤ n) (few : n ≤ 169) where
+  abbrev fifty : List Float
+  fifty = replicate 720 (f32Of 50)
+
+  taken-50 : EachTaken fifty
+  unfolding entryTaken upTo signClear signBit isNan lt ofInt
+  taken-50 = each-same (λ (x : Float). entryTaken x ≡ true) 720 (f32Of 50) refl
+
+  f32-50 : Each F32 fifty
+  f32-50 = each-same F32 720 (f32Of 50) (ofInt-fits binary32 (pos 50))
+
+  kept-50 : (gap : Float) → FromZero gap → (j : Job) → Met (two-hues gap) (levels-of-50 n) (began (two-hues gap) (levels-of-50 n)) (n * n) j
+  kept-50 gap g = any-kept fifty (length-replicate 720 (f32Of 50)) taken-50 f32-50 n some few (two-hues gap) (omega arith, omega arith) g
+
+  new-50 : (gap : Float) → FromForty gap → (j : Job) → Met (two-hues gap) (levels-of-50 n) (start (two-hues gap) (levels-of-50 n)) (n * n) j
+  new-50 gap g = any-levels fifty (length-replicate 720 (f32Of 50)) taken-50 f32-50 n some few (two-hues gap) (omega arith, omega arith) g
+
+-- a gap of 0 over three levels: nine steps
+pub kept-met : (j : Job) → Met (two-hues (f32Of 0)) (levels-of-50 3) (began (two-hues (f32Of 0)) (levels-of-50 3)) 9 j
+unfolding gapTaken upTo signClear signBit isNan lt ofInt
+kept-met j = kept-50 3 (omega arith) (omega arith) (f32Of 0) refl j
+
+-- a gap of 40 over 83 levels: 6,889 steps
+pub new-met : (j : Job) → Met (two-hues (f32Of 40)) (levels-of-50 83) (start (two-hues (f32Of 40)) (levels-of-50 83)) 6889 j
+unfolding gapTaken upTo signClear signBit isNan lt le eq ofInt
+new-met j = new-50 83 (omega arith) (omega arith) (f32Of 40) (refl, refl) j
+
+-- ---- a choice in each
+hues-there : Hues 720 2 (stepFor 2) (0 ∷ 301 ∷ [])
+unfolding stepFor
+hues-there = record { count = refl; within = inside; allowed = λ (p : ℕ) (h : p < 2). refl; apart = far }
+  where
+    inside : (p : ℕ) → p < 2 → getD (0 ∷ 301 ∷ []) p 0 < 720
+    inside zero h = omega arith
+    inside (suc zero) h = omega arith
+    inside (suc (suc p)) h = absurd (omega arith)
+
+    far : (p q : ℕ) → p < 2 → q < 2 → (p ≡ q → ⊥) → Apart 720 301 (getD (0 ∷ 301 ∷ []) p 0) (getD (0 ∷ 301 ∷ []) q 0)
+    far zero zero h k d = absurd (d refl)
+    far zero (suc zero) h k d = (omega arith, omega arith)
+    far (suc zero) zero h k d = (omega arith, omega arith)
+    far (suc zero) (suc zero) h k d = absurd (d refl)
+    far zero (suc (suc q)) h k d = absurd (omega arith)
+    far (suc zero) (suc (suc q)) h k d = absurd (omega arith)
+    far (suc (suc p)) q h k d = absurd (omega arith)
+
+-- the first level and the last of n, with those hues
+there : (gap : Float) (n : ℕ) → FromZero gap → 0 < n → n < 169 → qualifies (two-hues gap) 0 n ≡ true → Choice (levels-of-50 (suc n)) (two-hues gap) (suc n * suc n)
+there gap n held some few far =
+    let e = stacked-levels (replicate 720 (f32Of 50)) (length-replicate 720 (f32Of 50)) (suc n) in
+    let m = mul-le-mul-right (suc n) some in
+    record {
+      dark = 0;
+      light = n;
+      hues = 0 ∷ 301 ∷ [];
+      dark-in = omega arith;
+      light-in = omega arith;
+      gone-through = omega arith;
+      far = far-apart (two-hues gap) held 0 n (omega arith) few far;
+      spaced = hues-there;
+    }
+
+pub kept-choice : Choice (levels-of-50 3) (two-hues (f32Of 0)) 9
+unfolding gapTaken upTo signClear signBit isNan lt ofInt qualifies levelOf sub add mul round
+kept-choice = there (f32Of 0) 2 refl (omega arith) (omega arith) refl
+
+pub new-choice : Choice (levels-of-50 83) (two-hues (f32Of 40)) 6889
+unfolding gapTaken upTo signClear signBit isNan lt ofInt qualifies levelOf sub add mul round
+new-choice = there (f32Of 40) 82 refl (omega arith) (omega arith) refl

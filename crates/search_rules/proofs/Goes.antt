@@ -1,5 +1,6 @@
 -- A step of a record that is not broken, over a table that is taken, with room enough: it is accepted, the record stays unbroken with the same settings and the next position,
--- and its best is kept or becomes this pair's (`step-goes`). So a start and all its steps are accepted (`all-accepted`), and what `search` says is what they leave. Assumes nothing.
+-- and its best is kept or becomes this pair's (`step-goes`). So all steps that are left are accepted (`steps-go`), a start and all its steps are, today's start and document 01's
+-- (`all-accepted`, `all-kept`), and what `search` says is what they leave. Assumes nothing.
 use mathlib.Core.Path.{_≡_, refl, sym, ap, _∙_, subst}
 use mathlib.Core.Logic.{_⊎_, inl, inr}
 use mathlib.Core.Bool.{Bool, true, false, cond}
@@ -11,7 +12,7 @@ use lib.Dec.{leb}
 use lib.Ieee.{Float, le}
 use lib.ListN.{length, getD, replicate}
 use borrow.Author.Tests.{le-leb}
-use Rattle.limits.specs.Answers.{Said, value}
+use Rattle.limits.specs.Answers.{Said, value, refused}
 use Rattle.limits.specs.Taken.{f32Of}
 use Rattle.limits.proofs.HueCount.{hue-count, count-taken}
 use Rattle.limits.proofs.Tests.{joined}
@@ -28,15 +29,14 @@ use Rattle.search_rules.specs.declared.Settings.{Settings}
 use Rattle.search_rules.specs.declared.Best.{Best}
 use Rattle.search_rules.specs.declared.Best.the-variants.{Found}
 use Rattle.search_rules.specs.declared.Job.{Job}
-use Rattle.search_rules.specs.Job.{begun, startSays, bestHeld, handed, huesHeld, unbroken, qualifies, floorOf, beats, movedOn, replaced, afterPair, pairBest, searched, stepChecked, stepSays, jobAfter, stepsFrom, searchSays}
-use Rattle.search_rules.specs.Runs.{start, step, run, since, unstarted, noted, historyFrom, history, OverOneTable, Lent, steps, wholeSearch}
-use Rattle.search_rules.specs.Accepted.{StartTaken}
+use Rattle.search_rules.specs.Job.{begun, bestHeld, handed, huesHeld, unbroken, qualifies, floorOf, beats, movedOn, replaced, afterPair, pairBest, searched, stepChecked, stepSays, jobAfter, stepsFrom, searchSays}
+use Rattle.search_rules.specs.Runs.{Call, start, began, step, tableOf, given, run, History, unstarted, since, noted, historyFrom, history, OverOneTable, Lent, steps, wholeSearch}
+use Rattle.search_rules.specs.Accepted.{StartTaken, BeganTaken, AllAccepted}
 use Rattle.search_rules.proofs.Checking.{step-checks, step-passes}
 use Rattle.search_rules.proofs.Unbroken.{sound, unbroken-by, best-back}
 use Rattle.search_rules.proofs.Floor.{BestF32, floor-f32, floor-from, floor-taken, chroma-plain, thirty-five, at-most-200}
 use Rattle.search_rules.proofs.Rows.{Good, shape, long, rows-f32, pair-says}
-use Rattle.search_rules.proofs.Kept.{starts-held}
-use Rattle.search_rules.proofs.Accepted.{start-given, search-given}
+use Rattle.search_rules.proofs.Accepted.{start-given, began-given, started-began, search-given}
 
 -- ---- sixteen hues of which k are placed
 zeros-held : (n : ℕ) → huesHeld 0 (replicate n 0) ≡ true
@@ -52,6 +52,12 @@ stored-held (suc n) (i ∷ is) h f =
     let a : i < 720 = f 0 (omega arith) in
     let rest = stored-held n is (le-of-suc-le-suc h) (λ (p : ℕ) (l : p < length is). f (suc p) (omega arith)) in
     ap (huesHeld (suc (length is))) (stored-next 0 (replicate n 0) i is) ∙ joined (leb i 719) (huesHeld (length is) (stores (replicate n 0) 0 is)) (le-leb i 719 (omega arith)) rest
+
+-- ---- a job that is begun, by document 01's start
+pub begun-unbroken : (s : Settings) (t : List Float) → BeganTaken s t → unbroken (begun s (levelsIn t)) ≡ true
+begun-unbroken s t h =
+    unbroken-by (begun s (levelsIn t))
+    (record { hue-count-taken = count-taken (s .k) (h .hue-count); gap-held = h .gap; some-level = h .levels .0; few-levels = h .levels .1; within = omega arith; best-held = refl; hues-held = zeros-held 16 })
 
 -- ---- one step
 -- what an accepted step leaves of j at levels d and l
@@ -158,53 +164,90 @@ module _ (t : List Float) (good : Good t) (j : Job) (u : unbroken j ≡ true) (u
       go true none e = (movedOn j, (refl, on))
       go true (found c' hues) e = (cond (beats c' (j .best)) (replaced j c' d l hues) (movedOn j), (refl, either c' hues e (beats c' (j .best))))
 
--- ---- all steps
-module _ (t : List Float) (good : Good t) (work : List ℕ) (room : workNeeded 720 ≤ length work) (s : Settings) where
-  abbrev q : ℕ
-  q = length work
+-- ---- steps one after the other, over one table with one work buffer
+module _ (t : List Float) (work : List ℕ) where
+  -- none is lent another table, and they leave what `stepsFrom` does
+  pub steps-lent : (n : ℕ) (j : Job) → OverOneTable t (steps n t work) j
+  steps-lent zero j = tt
+  steps-lent (suc n) j = (lent (stepSays j t (length work)), steps-lent n (jobAfter j (stepSays j t (length work))))
+    where
+      lent : (x : Said Job) → Lent t (step t work) x
+      lent (value j') = refl
+      lent (refused w) = tt
 
-  -- n steps of a job are accepted, all over t, and leave what `stepsFrom` does
-  abbrev Taken : ℕ → ℕ → Job → Type 0
-  Taken n p j = (historyFrom (since s p) (steps n t work) j ≡ since s (p + n)) × (OverOneTable t (steps n t work) j × (run (steps n t work) j ≡ stepsFrom n j t q))
+  pub steps-run : (n : ℕ) (j : Job) → run (steps n t work) j ≡ stepsFrom n j t (length work)
+  unfolding run stepsFrom
+  steps-run zero j = refl
+  steps-run (suc n) j = steps-run n (jobAfter j (stepSays j t (length work)))
 
-  taken : (n p : ℕ) (j : Job) → unbroken j ≡ true → j .levels ≡ levelsIn t → BestF32 (j .best) → j .position + n ≤ j .levels * j .levels → Taken n p j
-  unfolding historyFrom run stepsFrom
-  taken zero p j u e f h = (ap (since s) (sym (add-zero p)), (tt, refl))
-  taken (suc n) p j u e f h =
-      let g = step-goes t good j u (omega arith) e f q room in
+  -- each that is accepted counts
+  pub steps-count : (s : Settings) (n p : ℕ) (j : Job) → AllAccepted (steps n t work) j → historyFrom (since s p) (steps n t work) j ≡ since s (p + n)
+  unfolding historyFrom
+  steps-count s zero p j a = ap (since s) (sym (add-zero p))
+  steps-count s (suc n) p j a =
+      let c : suc p + n ≡ p + suc n = omega arith in
+      subst (λ (said : Said Job). historyFrom (noted (step t work) said (since s p)) (steps n t work) (jobAfter j (stepSays j t (length work))) ≡ since s (p + suc n)) (sym (a .0 .1))
+      (steps-count s n (suc p) (jobAfter j (stepSays j t (length work))) (a .1) ∙ ap (since s) c)
+
+-- ---- all accepted, where the table is taken and there is room
+module _ (t : List Float) (good : Good t) (work : List ℕ) (room : workNeeded 720 ≤ length work) where
+  -- n steps of a job are accepted, and leave it with its settings and levels, n positions on
+  pub record Gone (n : ℕ) (j : Job) : Type 0 where
+    pub accepted : AllAccepted (steps n t work) j
+    pub settings-kept : run (steps n t work) j .settings ≡ j .settings
+    pub levels-kept : run (steps n t work) j .levels ≡ j .levels
+    pub position-on : run (steps n t work) j .position ≡ j .position + n
+    pub still-unbroken : unbroken (run (steps n t work) j) ≡ true
+
+  pub steps-go : (n : ℕ) (j : Job) → unbroken j ≡ true → j .levels ≡ levelsIn t → BestF32 (j .best) → j .position + n ≤ j .levels * j .levels → Gone n j
+  unfolding run
+  steps-go zero j u e f h = record { accepted = tt; settings-kept = refl; levels-kept = refl; position-on = sym (add-zero (j .position)); still-unbroken = u }
+  steps-go (suc n) j u e f h =
+      let g = step-goes t good j u (omega arith) e f (length work) room in
       let j' = g .0 in
       let w = g .1 .1 in
       let a = w .same-levels in
       let b = w .next-position in
       let room' : j' .position + n ≤ j' .levels * j' .levels = subst (λ (x : ℕ). j' .position + n ≤ x * x) (sym a) (omega arith) in
-      let r = taken n (suc p) j' (w .still-unbroken) (a ∙ e) (w .best-f32) room' in
-      let c : suc p + n ≡ p + suc n = omega arith in
-      subst (λ (said : Said Job). (historyFrom (noted (step t work) said (since s p)) (steps n t work) (jobAfter j said) ≡ since s (p + suc n)) × ((Lent t (step t work) said × OverOneTable t (steps n t work) (jobAfter j said)) × (run (steps n t work) (jobAfter j said) ≡ stepsFrom n (jobAfter j said) t q)))
-      (sym (g .1 .0)) (r .0 ∙ ap (since s) c, ((refl, r .1 .0), r .1 .1))
+      let r = steps-go n j' (w .still-unbroken) (a ∙ e) (w .best-f32) room' in
+      let p = r .position-on in
+      let k : jobAfter j (stepSays j t (length work)) ≡ j' = ap (jobAfter j) (g .1 .0) in
+      record {
+        accepted = ((j', g .1 .0), subst (AllAccepted (steps n t work)) (sym k) (r .accepted));
+        settings-kept = ap (λ (x : Job). run (steps n t work) x .settings) k ∙ r .settings-kept ∙ w .same-settings;
+        levels-kept = ap (λ (x : Job). run (steps n t work) x .levels) k ∙ r .levels-kept ∙ a;
+        position-on = ap (λ (x : Job). run (steps n t work) x .position) k ∙ omega arith;
+        still-unbroken = ap (λ (x : Job). unbroken (run (steps n t work) x)) k ∙ r .still-unbroken;
+      }
 
-  -- ---- from a start
-  module _ (startable : StartTaken s t) where
-    begun-unbroken : unbroken (begun s (levelsIn t)) ≡ true
-    begun-unbroken =
-        unbroken-by (begun s (levelsIn t))
-        (record { hue-count-taken = count-taken (s .k) (startable .hue-count); gap-held = starts-held (s .gap) (startable .gap); some-level = startable .levels .0; few-levels = startable .levels .1; within = omega arith; best-held = refl; hues-held = zeros-held 16 })
+  -- ---- from a start, today's or document 01's
+  module _ (s : Settings) where
+    abbrev all : ℕ
+    all = levelsIn t * levelsIn t
 
-    from-start : Taken (levelsIn t * levelsIn t) 0 (begun s (levelsIn t))
-    from-start = taken (levelsIn t * levelsIn t) 0 (begun s (levelsIn t)) begun-unbroken refl tt (omega arith)
+    module _ (takes : BeganTaken s t) where
+      -- a call that leaves the job begun, and then all steps
+      opened : (c : Call) (j : Job) → given c j ≡ value (begun s (levelsIn t)) → noted c (value (begun s (levelsIn t))) unstarted ≡ since s 0 → tableOf c ≡ t
+          → (history (c ∷ steps all t work) j ≡ since s all) × OverOneTable t (c ∷ steps all t work) j
+      unfolding historyFrom
+      opened c j says opens lent =
+          let z : 0 + all ≡ all = omega arith in
+          let g = steps-go all (begun s (levelsIn t)) (begun-unbroken s t takes) refl tt (omega arith) in
+          subst (λ (said : Said Job). (historyFrom (noted c said unstarted) (steps all t work) (jobAfter j said) ≡ since s all) × (Lent t c said × OverOneTable t (steps all t work) (jobAfter j said))) (sym says)
+          (subst (λ (h : History). historyFrom h (steps all t work) (begun s (levelsIn t)) ≡ since s all) (sym opens) (steps-count t work s all 0 (begun s (levelsIn t)) (g .accepted) ∙ ap (since s) z), (lent, steps-lent t work all (begun s (levelsIn t))))
 
-    -- a start and all its steps are accepted, from any job record
-    pub all-accepted : (j : Job) → (history (wholeSearch s t work) j ≡ since s (levelsIn t * levelsIn t)) × OverOneTable t (wholeSearch s t work) j
-    unfolding historyFrom
-    all-accepted j =
-        let r = from-start in
-        let z : 0 + levelsIn t * levelsIn t ≡ levelsIn t * levelsIn t = omega arith in
-        subst (λ (said : Said Job). (historyFrom (noted (start s t) said unstarted) (steps (levelsIn t * levelsIn t) t work) (jobAfter j said) ≡ since s (levelsIn t * levelsIn t)) × (Lent t (start s t) said × OverOneTable t (steps (levelsIn t * levelsIn t) t work) (jobAfter j said)))
-        (sym (start-given s t startable)) (r .0 ∙ ap (since s) z, (refl, r .1 .0))
+      -- document 01's start and all its steps are accepted, from any job record
+      pub all-kept : (j : Job) → (history (began s t ∷ steps all t work) j ≡ since s all) × OverOneTable t (began s t ∷ steps all t work) j
+      all-kept j = opened (began s t) j (began-given s t takes) refl refl
 
-    -- and leave what `search` says
-    pub search-is-run : (j : Job) → searchSays s t q ≡ value (run (wholeSearch s t work) j)
-    unfolding run
-    search-is-run j = search-given s t q startable room ∙ ap value (sym after)
-      where
-        after : run (steps (levelsIn t * levelsIn t) t work) (jobAfter j (startSays s t)) ≡ stepsFrom (levelsIn t * levelsIn t) (begun s (levelsIn t)) t q
-        after = subst (λ (said : Said Job). run (steps (levelsIn t * levelsIn t) t work) (jobAfter j said) ≡ stepsFrom (levelsIn t * levelsIn t) (begun s (levelsIn t)) t q) (sym (start-given s t startable)) (from-start .1 .1)
+    module _ (startable : StartTaken s t) where
+      -- and so are today's start and all its steps
+      pub all-accepted : (j : Job) → (history (wholeSearch s t work) j ≡ since s all) × OverOneTable t (wholeSearch s t work) j
+      all-accepted j = opened (started-began s t startable) (start s t) j (start-given s t startable) refl refl
+
+      -- and leave what `search` says
+      pub search-is-run : (j : Job) → searchSays s t (length work) ≡ value (run (wholeSearch s t work) j)
+      unfolding run
+      search-is-run j =
+          search-given s t (length work) startable room
+          ∙ ap value (sym (steps-run t work all (begun s (levelsIn t))) ∙ ap (λ (said : Said Job). run (steps all t work) (jobAfter j said)) (sym (start-given s t startable)))

@@ -1,5 +1,5 @@
 -- The promise of demand 3 is kept by an accepted step, whatever the record was as long as the promise held of it (`step-kept`), and opened by an accepted start
--- (`start-kept`). Assumes nothing.
+-- (`began-kept`, for document 01's start, which takes all that today's does). Assumes nothing.
 use mathlib.Core.Path.{_≡_, refl, sym, ap, _∙_, subst}
 use mathlib.Core.Bool.{Bool, true, false, _&&_, cond}
 use mathlib.Core.List.{List, [], _∷_}
@@ -27,7 +27,7 @@ use Rattle.search_rules.specs.declared.Settings.{Settings}
 use Rattle.search_rules.specs.declared.Best.{Best}
 use Rattle.search_rules.specs.declared.Best.the-variants.{None, Found}
 use Rattle.search_rules.specs.declared.Job.{Job}
-use Rattle.search_rules.specs.Job.{gapStarts, gapHeld, bestHeld, unbroken, qualifies, floorOf, beats, movedOn, replaced, afterPair, pairBest, searched, stepChecked, stepSays, begun, startChecked, startSays}
+use Rattle.search_rules.specs.Job.{gapHeld, bestHeld, unbroken, qualifies, floorOf, beats, movedOn, replaced, afterPair, pairBest, searched, stepChecked, stepSays, begun, startCheckedBy, beganSays}
 use Rattle.search_rules.specs.Runs.{Choice, commonOf, Promise}
 use Rattle.search_rules.proofs.Apart.{far-apart, qualified}
 use Rattle.search_rules.proofs.Checking.{start-checks, step-checks, step-passed}
@@ -325,18 +325,14 @@ step-kept t s n j j' room kept h =
     let g : searched j t (j .position / levelsIn t) (j .position % levelsIn t) ≡ value j' = subst (λ (x : ℕ). searched j t (j .position / x) (j .position % x) ≡ value j') (kept .promise .levels-are) (f .1) in
     subst (λ (x : Settings). Kept t x (suc n) j') a (subst (λ (x : ℕ). Kept t (j .settings) (suc x) j') b (went t j here (p .sound) (p .unfinished) j' g))
 
--- ---- an accepted start
--- a gap that a start takes is one that a record may hold
-pub starts-held : (gap : Float) → gapStarts gap ≡ true → gapHeld gap ≡ true
-starts-held gap h = h
-
-pub start-kept : (s : Settings) (t : List Float) (j' : Job) → Each F32 t → startSays s t ≡ value j' → Kept t s 0 j'
-unfolding startSays startChecked
-start-kept s t j' F h =
-    let f = all-pass (start-checks s t) (value (begun s (levelsIn t))) j' h in
+-- ---- an accepted start, by document 01
+pub began-kept : (s : Settings) (t : List Float) (j' : Job) → Each F32 t → beganSays s t ≡ value j' → Kept t s 0 j'
+unfolding beganSays startCheckedBy
+began-kept s t j' F h =
+    let f = all-pass (start-checks gapHeld s t) (value (begun s (levelsIn t))) j' h in
     subst (Kept t s 0) (same-job (begun s (levelsIn t)) j' (f .1)) (record {
       good = record { levels-taken = f .0 .1 .1 .0; entries-taken = f .0 .1 .1 .1 .0; entries-f32 = F };
-      gap-held = starts-held (s .gap) (f .0 .1 .0);
+      gap-held = f .0 .1 .0;
       some-hue = f .0 .0;
       chroma-f32 = tt;
       promise = record {

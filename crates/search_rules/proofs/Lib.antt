@@ -1,5 +1,6 @@
 pub mod Positions
 pub mod Apart
+pub mod Gaps
 pub mod Checking
 pub mod Unbroken
 pub mod Floor
@@ -9,6 +10,7 @@ pub mod Kept
 pub mod Runs
 pub mod Accepted
 pub mod Goes
+pub mod KeptJobs
 pub mod Example
 pub mod Loops
 pub mod Rooms

@@ -1,4 +1,4 @@
--- Document 01, "The job": what start and step hand back for every job record, table and work buffer. Definitions only.
+-- Document 01, "The job", and Req 05 of document 02: what start and step hand back for every job record, table and work buffer, and what document 01's start did. Definitions only.
 use Prim.Native.Nat.{ℕ, zero, suc, _+_, _*_, _/_, _%_}
 use mathlib.Core.Path.{_≡_}
 use mathlib.Core.Bool.{Bool, true, not, _&&_, cond}
@@ -24,10 +24,11 @@ use Rattle.search_rules.specs.declared.Answer.{Answer}
 use Rattle.search_rules.specs.declared.Answer.the-variants.{Accepted, Refused}
 
 -- ---- start
--- the gap that a start takes, and the gap that a record may hold
-abbrev pub gapStarts : Float → Bool
-gapStarts gap = gapTaken gap
+-- the gap that a start takes: "number 2 for a gap below 40 as well"
+unfoldable pub gapStarts : Float → Bool
+gapStarts gap = gapTaken gap && not (lt gap (f32Of 40))
 
+-- the gap that a record may hold, which is what document 01's start took: "Jobs already begun with a smaller gap are kept"
 abbrev pub gapHeld : Float → Bool
 gapHeld gap = gapTaken gap
 
@@ -35,16 +36,23 @@ gapHeld gap = gapTaken gap
 abbrev pub begun : Settings → ℕ → Job
 begun s levels = record { settings = s; levels = levels; position = 0; best = None; hues = replicate 16 0 }
 
--- "Start checks 1, 2, 6, 7 over the whole table.", in front of what a good call says
-unfoldable pub startChecked : {A : Type 0} → Settings → List Float → Said A → Said A
-startChecked s table good =
+-- "Start checks 1, 2, 6, 7 over the whole table.", in front of what a good call says, with this test of the gap
+unfoldable pub startCheckedBy : {A : Type 0} → (Float → Bool) → Settings → List Float → Said A → Said A
+startCheckedBy gaps s table good =
     cond (hueCountTaken (s .k))
-    (cond (gapStarts (s .gap))
+    (cond (gaps (s .gap))
     (cond (tableTaken table)
     (cond (every entryTaken table) good (refused 7)) (refused 6)) (refused 2)) (refused 1)
 
+abbrev pub startChecked : {A : Type 0} → Settings → List Float → Said A → Said A
+startChecked s table good = startCheckedBy gapStarts s table good
+
 unfoldable pub startSays : Settings → List Float → Said Job
 startSays s table = startChecked s table (value (begun s (levelsIn table)))
+
+-- what document 01's start said, by which jobs were begun before Req 05
+unfoldable pub beganSays : Settings → List Float → Said Job
+beganSays s table = startCheckedBy gapHeld s table (value (begun s (levelsIn table)))
 
 -- ---- number 15
 -- "a chroma from 35 to 200 with two level indices", below levels

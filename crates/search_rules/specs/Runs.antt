@@ -1,5 +1,6 @@
 -- Demand 3: "For every list of start and step calls over one table, refused ones included, from any job record and whatever the work buffers held, the following holds after
--- it, once a start in it was accepted." The last record, `Promise`, is what holds; the theorem is `whole-runs` of proofs/Runs. Definitions only.
+-- it, once a start in it was accepted." Req 05: "What is promised about the best chroma covers both kinds of job: for a kept one, the start that document 01 gave it counts as
+-- accepted and opens its list." The last record, `Promise`, is what holds; the theorem is `whole-runs` of proofs/Runs. Definitions only.
 use mathlib.Core.Path.{_≡_}
 use mathlib.Core.Bool.{false, true}
 use mathlib.Core.List.{List, [], _∷_}
@@ -17,22 +18,25 @@ use Rattle.pair_rules.specs.Limit.{Hues}
 use Rattle.search_rules.specs.declared.Settings.{Settings}
 use Rattle.search_rules.specs.declared.Best.the-variants.{None, Found}
 use Rattle.search_rules.specs.declared.Job.{Job}
-use Rattle.search_rules.specs.Job.{startSays, stepSays, jobAfter}
+use Rattle.search_rules.specs.Job.{startSays, beganSays, stepSays, jobAfter}
 
 -- ---- a list of calls
--- "A start has any arguments, a step any work buffer, short ones too."
+-- "A start has any arguments, a step any work buffer, short ones too."; and the start that document 01 gave a kept job
 pub data Call : Type 0 where
   start : Settings → List Float → Call
+  began : Settings → List Float → Call
   step : List Float → List ℕ → Call
 
 -- the table that a call is lent
 abbrev pub tableOf : Call → List Float
 tableOf (start s t) = t
+tableOf (began s t) = t
 tableOf (step t work) = t
 
--- what a call says to a job: what the contracts of start and step say
+-- what a call says to a job: what the contracts of start and step say, and what document 01's start said
 abbrev pub given : Call → Job → Said Job
 given (start s t) j = startSays s t
+given (began s t) j = beganSays s t
 given (step t work) j = stepSays j t (length work)
 
 -- "Each call gets the job as the call before it left it; an accepted one leaves its new job, a refused one the job it found."
@@ -50,6 +54,7 @@ pub data History : Type 0 where
 abbrev pub noted : Call → Said Job → History → History
 noted c (refused n) h = h
 noted (start s t) (value j) h = since s 0
+noted (began s t) (value j) h = since s 0
 noted (step t work) (value j) unstarted = unstarted
 noted (step t work) (value j) (since s n) = since s (suc n)
 

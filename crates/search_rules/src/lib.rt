@@ -6,7 +6,7 @@ use limits::Refusal;
 pub struct Settings {
     // how many hues
     pub k: usize,
-    // how far apart the two levels must be, less 1
+    // how far apart the two levels must be, less 1; from 40 up where a job is begun, and in one kept from before that rule from 0 up
     pub gap: f32,
 }
 

@@ -9,7 +9,7 @@ use Rattle.limits.specs.Answers.{Said, value, refused}
 use Rattle.limits.specs.Taken.{hueCountTaken, entryTaken, every}
 use Rattle.gamut.specs.Table.{tableTaken}
 use Rattle.search_rules.specs.declared.Settings.{Settings}
-use Rattle.search_rules.specs.Job.{gapStarts, startChecked}
+use Rattle.search_rules.specs.Job.{gapStarts, startCheckedBy, startChecked}
 use Rattle.search_checks.proofs.check_start.Statement.{statement}
 use Rattle.search_checks.proofs.check_start.Tie as tie
 
@@ -18,26 +18,26 @@ module _ (s : Settings) (table : List Float) where
   said = startChecked s table (value tt)
 
   first : hueCountTaken (s .k) ≡ false → refused 1 ≡ said
-  unfolding startChecked
+  unfolding startCheckedBy
   first f = rw f
 
   module _ (one : hueCountTaken (s .k) ≡ true) where
     second : gapStarts (s .gap) ≡ false → refused 2 ≡ said
-    unfolding startChecked
+    unfolding startCheckedBy
     second f = rw (one, f)
 
     module _ (two : gapStarts (s .gap) ≡ true) where
       third : tableTaken table ≡ false → refused 6 ≡ said
-      unfolding startChecked
+      unfolding startCheckedBy
       third f = rw (one, two, f)
 
       module _ (three : tableTaken table ≡ true) where
         fourth : every entryTaken table ≡ false → refused 7 ≡ said
-        unfolding startChecked
+        unfolding startCheckedBy
         fourth f = rw (one, two, three, f)
 
         fine : every entryTaken table ≡ true → value tt ≡ said
-        unfolding startChecked
+        unfolding startCheckedBy
         fine f = rw (one, two, three, f)
 
 takes-hue-count-requires : tie.Need-takes-hue-count-requires
@@ -49,14 +49,14 @@ returns c = first _ _ (sym (c .before .takes-hue-count .ensures) ∙ not-true _ 
 one : (c : tie.Else1) → hueCountTaken (c .before .before .before .args .settings .k) ≡ true
 one c = sym (c .before .takes-hue-count .ensures) ∙ not-false _ (c .if1 .left)
 
-takes-gap-requires : tie.Need-takes-gap-requires
-takes-gap-requires c κs = search needs
+starts-gap-requires : tie.Need-starts-gap-requires
+starts-gap-requires c κs = search needs
 
 returns-2 : tie.Need-returns-2
-returns-2 c = second _ _ (one (c .before .before)) (sym (c .before .takes-gap .ensures) ∙ not-true _ (c .if2 .taken))
+returns-2 c = second _ _ (one (c .before .before)) (sym (c .before .starts-gap .ensures) ∙ not-true _ (c .if2 .taken))
 
 two : (c : tie.Else2) → gapStarts (c .before .before .before .before .before .args .settings .gap) ≡ true
-two c = sym (c .before .takes-gap .ensures) ∙ not-false _ (c .if2 .left)
+two c = sym (c .before .starts-gap .ensures) ∙ not-false _ (c .if2 .left)
 
 takes-table-requires : tie.Need-takes-table-requires
 takes-table-requires c κs = search needs
@@ -90,7 +90,7 @@ check-start-spec =
     (tie.spec
     takes-hue-count-requires
     returns
-    takes-gap-requires
+    starts-gap-requires
     returns-2
     takes-table-requires
     returns-3
