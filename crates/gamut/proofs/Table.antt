@@ -1,5 +1,5 @@
--- The shape of a table that is taken (`levelled`), how many levels a table of whole rows has (`levels-by`), and its rows: how long they are, which of the table's entries theirs are, that they are taken where the table's are, and that
--- they are f32 where the table's are. Assumes nothing.
+-- The shape of a table that is taken (`levelled`), how many levels a table of whole rows has (`levels-by`), and its rows: how long they are, which of the table's entries theirs
+-- are, that they are taken where the table's are, and that they are f32 where the table's are. Assumes nothing.
 use mathlib.Core.Path.{_≡_, ap, _∙_}
 use mathlib.Core.Bool.{Bool, true, _&&_}
 use mathlib.Core.List.{List}

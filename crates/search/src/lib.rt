@@ -171,8 +171,8 @@ fn go_through(table: &[f32], work: &mut [u16], job: Job, dark: usize, light: usi
     }
 }
 
-// One step of a search over the table that it was begun with, whatever gap it was begun with. The job is handed back as it was where the call is refused, and so
-// is the work buffer; else that buffer's content is left free, and does not matter.
+// One step of a search over the table that it was begun with, whatever gap it was begun with. The job is handed back as it was where
+// the call is refused, and so is the work buffer; else that buffer's content is left free, and does not matter.
 pub fn step(table: &[f32], work: &mut [u16], job: Job) -> Outcome
     ensures { λ r. ⌜ Gives r job (stepSays job (now (table .entry)) (length (now (work .entry)))) ⌝ }
     ensures { λ r. ⌜ ((w : ℕ) → stepSays job (now (table .entry)) (length (now (work .entry))) ≡ refused w → now (work .exit) ≡ now (work .entry)) ⌝ }

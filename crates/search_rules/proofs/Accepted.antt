@@ -86,11 +86,11 @@ module _ (s : Settings) (t : List Float) where
   began-exactly = (began-only, λ (h : BeganTaken s t). (begun s (levelsIn t), began-given h))
 
   -- what today's start takes, document 01's took, with the same job
-  pub started-began : StartTaken s t → BeganTaken s t
-  started-began h = record { hue-count = h .hue-count; gap = h .gap .0; whole-levels = h .whole-levels; levels = h .levels; entries = h .entries }
+  pub also-began : StartTaken s t → BeganTaken s t
+  also-began h = record { hue-count = h .hue-count; gap = h .gap .0; whole-levels = h .whole-levels; levels = h .levels; entries = h .entries }
 
   pub start-began : (j : Job) → startSays s t ≡ value j → beganSays s t ≡ value j
-  start-began j e = let h = start-only (j, e) in began-given (started-began h) ∙ sym (start-given h) ∙ e
+  start-began j e = let h = start-only (j, e) in began-given (also-began h) ∙ sym (start-given h) ∙ e
 
   -- ---- search: a start, and number 8
   module _ (room : ℕ) where

@@ -68,35 +68,31 @@ module _ (row : List Float) (long : length row ≡ 720) (taken : EachTaken row) 
 abbrev pub two-hues : Float → Settings
 two-hues gap = record { k = 2; gap = gap }
 
+abbrev fifty : List Float
+fifty = replicate 720 (f32Of 50)
+
 abbrev pub levels-of-50 : ℕ → List Float
-levels-of-50 n = stacked n (replicate 720 (f32Of 50))
+levels-of-50 n = stacked n fifty
 
-module _ (n : ℕ) (some : 1 ≤ n) (few : n ≤ 169) where
-  abbrev fifty : List Float
-  fifty = replicate 720 (f32Of 50)
+long-50 : length fifty ≡ 720
+long-50 = length-replicate 720 (f32Of 50)
 
-  taken-50 : EachTaken fifty
-  unfolding entryTaken upTo signClear signBit isNan lt ofInt
-  taken-50 = each-same (λ (x : Float). entryTaken x ≡ true) 720 (f32Of 50) refl
+taken-50 : EachTaken fifty
+unfolding entryTaken upTo signClear signBit isNan lt ofInt
+taken-50 = each-same (λ (x : Float). entryTaken x ≡ true) 720 (f32Of 50) refl
 
-  f32-50 : Each F32 fifty
-  f32-50 = each-same F32 720 (f32Of 50) (ofInt-fits binary32 (pos 50))
+f32-50 : Each F32 fifty
+f32-50 = each-same F32 720 (f32Of 50) (ofInt-fits binary32 (pos 50))
 
-  kept-50 : (gap : Float) → FromZero gap → (j : Job) → Met (two-hues gap) (levels-of-50 n) (began (two-hues gap) (levels-of-50 n)) (n * n) j
-  kept-50 gap g = any-kept fifty (length-replicate 720 (f32Of 50)) taken-50 f32-50 n some few (two-hues gap) (omega arith, omega arith) g
-
-  new-50 : (gap : Float) → FromForty gap → (j : Job) → Met (two-hues gap) (levels-of-50 n) (start (two-hues gap) (levels-of-50 n)) (n * n) j
-  new-50 gap g = any-levels fifty (length-replicate 720 (f32Of 50)) taken-50 f32-50 n some few (two-hues gap) (omega arith, omega arith) g
-
--- a gap of 0 over three levels: nine steps
+-- a kept job with a gap of 0 over three levels: nine steps
 pub kept-met : (j : Job) → Met (two-hues (f32Of 0)) (levels-of-50 3) (began (two-hues (f32Of 0)) (levels-of-50 3)) 9 j
 unfolding gapTaken upTo signClear signBit isNan lt ofInt
-kept-met j = kept-50 3 (omega arith) (omega arith) (f32Of 0) refl j
+kept-met j = any-kept fifty long-50 taken-50 f32-50 3 (omega arith) (omega arith) (two-hues (f32Of 0)) (omega arith, omega arith) refl j
 
--- a gap of 40 over 83 levels: 6,889 steps
+-- a new one with a gap of 40 over 83 levels: 6,889 steps
 pub new-met : (j : Job) → Met (two-hues (f32Of 40)) (levels-of-50 83) (start (two-hues (f32Of 40)) (levels-of-50 83)) 6889 j
 unfolding gapTaken upTo signClear signBit isNan lt le eq ofInt
-new-met j = new-50 83 (omega arith) (omega arith) (f32Of 40) (refl, refl) j
+new-met j = any-levels fifty long-50 taken-50 f32-50 83 (omega arith) (omega arith) (two-hues (f32Of 40)) (omega arith, omega arith) (refl, refl) j
 
 -- ---- a choice in each
 hues-there : Hues 720 2 (stepFor 2) (0 ∷ 301 ∷ [])
@@ -117,10 +113,10 @@ hues-there = record { count = refl; within = inside; allowed = λ (p : ℕ) (h :
     far (suc zero) (suc (suc q)) h k d = absurd (omega arith)
     far (suc (suc p)) q h k d = absurd (omega arith)
 
--- the first level and the last of n, with those hues
+-- the first and the last of n + 1 levels, with those hues
 there : (gap : Float) (n : ℕ) → FromZero gap → 0 < n → n < 169 → qualifies (two-hues gap) 0 n ≡ true → Choice (levels-of-50 (suc n)) (two-hues gap) (suc n * suc n)
 there gap n held some few far =
-    let e = stacked-levels (replicate 720 (f32Of 50)) (length-replicate 720 (f32Of 50)) (suc n) in
+    let e = stacked-levels fifty long-50 (suc n) in
     let m = mul-le-mul-right (suc n) some in
     record {
       dark = 0;

@@ -36,7 +36,7 @@ use Rattle.search_rules.proofs.Checking.{step-checks, step-passes}
 use Rattle.search_rules.proofs.Unbroken.{sound, unbroken-by, best-back}
 use Rattle.search_rules.proofs.Floor.{BestF32, floor-f32, floor-from, floor-taken, chroma-plain, thirty-five, at-most-200}
 use Rattle.search_rules.proofs.Rows.{Good, shape, long, rows-f32, pair-says}
-use Rattle.search_rules.proofs.Accepted.{start-given, began-given, started-began, search-given}
+use Rattle.search_rules.proofs.Accepted.{start-given, began-given, also-began, search-given}
 
 -- ---- sixteen hues of which k are placed
 zeros-held : (n : ℕ) → huesHeld 0 (replicate n 0) ≡ true
@@ -243,7 +243,7 @@ module _ (t : List Float) (good : Good t) (work : List ℕ) (room : workNeeded 7
     module _ (startable : StartTaken s t) where
       -- and so are today's start and all its steps
       pub all-accepted : (j : Job) → (history (wholeSearch s t work) j ≡ since s all) × OverOneTable t (wholeSearch s t work) j
-      all-accepted j = opened (started-began s t startable) (start s t) j (start-given s t startable) refl refl
+      all-accepted j = opened (also-began s t startable) (start s t) j (start-given s t startable) refl refl
 
       -- and leave what `search` says
       pub search-is-run : (j : Job) → searchSays s t (length work) ≡ value (run (wholeSearch s t work) j)

@@ -218,7 +218,7 @@ module _ (t : List Float) (s : Settings) (n : ℕ) (j : Job) (kept : Kept t s n 
             floor-plain = chroma-plain (floorOf (j .best)) F₀ (floor-taken (j .levels) (j .best) best-held) .0
 
 -- ---- an accepted step
-same-job : (x y : Job) → _≡_ {A = Said Job} (value x) (value y) → x ≡ y
+pub same-job : (x y : Job) → _≡_ {A = Said Job} (value x) (value y) → x ≡ y
 same-job x y h = cc
 
 module _ (t : List Float) (j : Job) (kept : Kept t (j .settings) (j .position) j) (u : unbroken j ≡ true) (unfinished : j .position < j .levels * j .levels) where

@@ -26,13 +26,10 @@ use Rattle.search_rules.specs.Accepted.{BeganTaken, EachTaken, Unbroken,
 use Rattle.search_rules.proofs.Unbroken.{sound, unbroken-exactly}
 use Rattle.search_rules.proofs.Floor.{BestF32}
 use Rattle.search_rules.proofs.Rows.{Good}
-use Rattle.search_rules.proofs.Kept.{Kept, began-kept, step-kept}
+use Rattle.search_rules.proofs.Kept.{Kept, same-job, began-kept, step-kept}
 use Rattle.search_rules.proofs.Runs.{after-calls, whole-runs}
 use Rattle.search_rules.proofs.Accepted.{began-only, began-given, step-only}
 use Rattle.search_rules.proofs.Goes.{step-goes, steps-lent, steps-count, steps-go, begun-unbroken}
-
-value-same : (x y : Job) → _≡_ {A = Said Job} (value x) (value y) → x ≡ y
-value-same x y h = cc
 
 -- ---- the promise
 -- once a start was accepted, one always was
@@ -115,14 +112,14 @@ module _ (t : List Float) (f32 : Each F32 t) where
   started : (s : Settings) (j : Job) → beganSays s t ≡ value j → Whole s 0 j
   started s j e =
       let taken = began-only s t (j, e) in
-      let same = value-same (begun s (levelsIn t)) j (sym (began-given s t taken) ∙ e) in
+      let same = same-job (begun s (levelsIn t)) j (sym (began-given s t taken) ∙ e) in
       (began-kept s t j f32 e, subst (λ (x : Job). unbroken x ≡ true) same (begun-unbroken s t taken))
 
   stepped : (s : Settings) (n : ℕ) (j j' : Job) (room : ℕ) → Whole s n j → stepSays j t room ≡ value j' → Whole s (suc n) j'
   stepped s n j j' room (kept, u) e =
       let asked = step-only j t room (j', e) in
       let g = step-goes t (kept .good) j u (asked .unfinished) (kept .promise .levels-are) (kept .chroma-f32) room (one-lap 720 room .1 (asked .room-enough)) in
-      (step-kept t s n j j' room kept e, subst (λ (x : Job). unbroken x ≡ true) (value-same (g .0) j' (sym (g .1 .0) ∙ e)) (g .1 .1 .still-unbroken))
+      (step-kept t s n j j' room kept e, subst (λ (x : Job). unbroken x ≡ true) (same-job (g .0) j' (sym (g .1 .0) ∙ e)) (g .1 .1 .still-unbroken))
 
   -- the job after it runs to its end, and the list with those steps behind it is one in which every pair was gone through
   pub finishes : (calls : List Call) (j : Job) → OverOneTable t calls j → (s : Settings) (n : ℕ) → history calls j ≡ since s n → (work : List ℕ) → 720 ≤ length work
