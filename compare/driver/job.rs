@@ -180,7 +180,7 @@ pub fn began(k: u32, gap: f32, table: &[f32]) -> Result<Job, u32> {
     started(k, gap, takes_gap(gap), table)
 }
 
-/// The kept job of document 01's start, where a start is refused for its gap alone.
+/// The kept job of document 01's start, where a start refuses the gap and nothing else.
 pub fn kept(k: u32, gap: f32, table: &[f32]) -> Option<Job> {
     began(k, gap, table).ok().filter(Job::is_kept)
 }

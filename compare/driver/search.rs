@@ -67,8 +67,8 @@ impl Ends {
     }
 }
 
-/// How many starts and searches are refused for a gap that is too small and nothing else, how many
-/// of them are lent a kept job, and how many that are lent one are accepted.
+/// How many starts and searches are refused for a gap that is too small, where a start refuses
+/// nothing else, how many of them are lent a kept job, and how many that are lent one are accepted.
 #[derive(Default)]
 struct Beginnings {
     small: u64,
@@ -339,8 +339,8 @@ impl Searches<'_> {
         line(self.out, "start", &words)
     }
 
-    /// Writes a start; where its gap alone is refused, being too small, the next call is lent the
-    /// kept job.
+    /// Writes a start; where it is refused for nothing but a gap that is too small, the next call is
+    /// lent the kept job.
     pub fn start(&mut self, k: u32, gap: f32) -> io::Result<()> {
         self.start_alone(k, gap)?;
         match job::kept(k, gap, self.table()) {
@@ -502,8 +502,8 @@ impl Searches<'_> {
         self.step_in(&[ROOM])
     }
 
-    /// Writes a whole search in a work buffer of each of these lengths; where its gap alone is
-    /// refused, being too small, the kept job is run to its end in them.
+    /// Writes a whole search in a work buffer of each of these lengths; where its gap is too small and
+    /// a start refuses nothing else, the kept job is run to its end in them.
     pub fn search_in(&mut self, k: u32, gap: f32, rooms: &[usize]) -> io::Result<()> {
         self.search_alone(k, gap, rooms)?;
         match job::kept(k, gap, self.table()) {
@@ -533,7 +533,7 @@ impl Searches<'_> {
             .write(self.out, "Kept jobs run to their end", FEW_LEVELS)?;
         writeln!(
             self.out,
-            "# Starts and searches refused for a gap below 40 alone: {}, {} of them lent a kept job; {} that were lent one were accepted.",
+            "# Starts and searches refused for a gap below 40, where a start refuses nothing else: {}, {} of them lent a kept job; {} that were lent one were accepted.",
             self.beginnings.small,
             self.beginnings.small_over_kept,
             self.beginnings.accepted_over_kept

@@ -1,5 +1,6 @@
--- A job for two hues with no pair left, a search or a kept one, beside a call with one hue fixed, over the same table of f32 and with the same gap. Where the job hands out c, what
--- the call hands out is at most the next f32 after c (`fixed-within-limit`), and where the job says none, so does every call that is accepted (`none-with-a-hue`). Assumes nothing.
+-- A job for two hues with no pair left, beside a call with one hue fixed, over the same table of f32 and with the same gap. Where the job hands out c, what the call hands out is
+-- at most the next f32 after c (`fixed-within-limit`), and where the job says none, so does every call that is accepted (`none-with-a-hue`). Of the job it asks that it hands out
+-- the limit (`HandsOut`), which proofs/Panel gives for a search, a stepped job and a kept one. Assumes nothing else.
 use mathlib.Core.Path.{_≡_, sym, _∙_, subst}
 use mathlib.Core.Bool.{true}
 use mathlib.Core.List.{List, [], _∷_}

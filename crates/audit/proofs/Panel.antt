@@ -89,7 +89,7 @@ module _ (s : Settings) (t : List Float) where
       let (e, (gone-through, over')) = finishes t f32 calls j over s n so-far work room in
       (e, subst (HandsOut t s) (run-on calls (steps (e .left) t work) j) (stepped-is-limit (calls ++ steps (e .left) t work) j f32 over' gone-through))
 
-  -- a kept one: document 01's start, and what calls came since, of which none began the job anew
+  -- a kept one: document 01's start, and what calls came since, after which the settings are still those of that start
   pub kept-is-limit : (calls : List Call) (j : Job) → Each F32 t → OverOneTable t (began s t ∷ calls) j → (n : ℕ) → history (began s t ∷ calls) j ≡ since s n → (work : List ℕ) → 720 ≤ length work
       → (e : RunsToEnd (run (began s t ∷ calls) j) t work) × HandsOut t s (run (steps (e .left) t work) (run (began s t ∷ calls) j))
   kept-is-limit calls = run-to-end-is-limit (began s t ∷ calls)

@@ -1,4 +1,4 @@
--- The auditor's question, for a whole search: is the chroma handed out the limit of the panel's table, and when it says none, does none exist? Both are meant for the hue
+-- The auditor's question, for a job with no pair left: is the chroma handed out the limit of the panel's table, and when it says none, does none exist? Both are meant for the hue
 -- count and the gap asked: k hues at least the step for k apart all round, on two levels at least gap + 1 apart. Definitions only.
 use mathlib.Core.Path.{_≡_}
 use mathlib.Core.Bool.{true}

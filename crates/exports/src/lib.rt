@@ -86,9 +86,9 @@ fn blank(settings: Settings) -> Job {
     }
 }
 
-// The whole search of a table for k hues, on levels at least gap + 1 apart: gives 0 with the chroma, sixteen hues and the dark
-// and the light level index, 255 with zeros for hues and the others as before where there is none, or the number of a refusal,
-// with all that is lent as before.
+// The whole search of a table for k hues, on levels at least gap + 1 apart, gap being from 40 to 84: gives 0 with the chroma, sixteen
+// hues and the dark and the light level index, 255 with zeros for hues and the others as before where there is none, or the number
+// of a refusal, with all that is lent as before.
 #[no_mangle]
 pub extern "C" fn tengcuvo_search(
     k: usize,

@@ -202,7 +202,7 @@ fn take_steps(table: &[f32], work: &mut [u16], job: Job, count: usize) -> Job
     last
 }
 
-// A whole search: a start and all its steps. Where it is refused the job and the work buffer are as they were.
+// A whole search: a start, with a gap from 40 up, and all its steps. Where it is refused the job and the work buffer are as they were.
 pub fn search(settings: Settings, table: &[f32], work: &mut [u16], job: Job) -> Outcome
     ensures { λ r. ⌜ Gives r job (searchSays settings (now (table .entry)) (length (now (work .entry)))) ⌝ }
     ensures { λ r. ⌜ ((w : ℕ) → searchSays settings (now (table .entry)) (length (now (work .entry))) ≡ refused w → now (work .exit) ≡ now (work .entry)) ⌝ }

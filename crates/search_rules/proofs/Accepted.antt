@@ -1,18 +1,18 @@
 -- Start, step and search are accepted exactly on document 01's conditions, with Req 04's for number 8 and Req 05's for number 2 (`start-exactly`, `step-exactly`,
--- `search-exactly`), and document 01's start was exactly on document 01's (`began-exactly`). Assumes nothing.
+-- `search-exactly`), and document 01's start was exactly on document 01's (`began-exactly`). Below 40 a start and a search are refused by 2 (`below-40`). Assumes nothing.
 use mathlib.Core.Path.{_≡_, refl, sym, _∙_, subst}
 use mathlib.Core.Logic.{_↔_}
-use mathlib.Core.Bool.{Bool, true, false, _&&_, cond}
+use mathlib.Core.Bool.{Bool, true, false, _&&_, cond, and-false}
 use mathlib.Core.List.{List, [], _∷_}
 use Prim.Native.Nat.{ℕ, _*_, _/_, _%_, _≤_, _<_}
 use native.Mathlib.Nat.{mod-lt, div-lt-iff-lt-mul}
 use native.Mathlib.Omega.{arith}
 use lib.Dec.{leb}
-use lib.Ieee.{Float}
+use lib.Ieee.{Float, lt}
 use lib.ListN.{length}
 use borrow.Author.Tests.{leb-true, le-leb}
 use Rattle.limits.specs.Answers.{Said, value, refused}
-use Rattle.limits.specs.Taken.{entryTaken, every}
+use Rattle.limits.specs.Taken.{f32Of, gapTaken, entryTaken, every}
 use Rattle.limits.specs.Each.{Each, F32}
 use Rattle.limits.proofs.HueCount.{both, hue-count, count-taken}
 use Rattle.limits.proofs.Checks.{check, AllPass, all-pass, said}
@@ -25,7 +25,7 @@ use Rattle.search_rules.specs.declared.Settings.{Settings}
 use Rattle.search_rules.specs.declared.Job.{Job}
 use Rattle.search_rules.specs.Job.{gapStarts, gapHeld, begun, startCheckedBy, startChecked, startSays, beganSays, qualifies, movedOn, afterPair, pairBest, searched, stepChecked, stepSays, stepsFrom, searchSays}
 use Rattle.search_rules.specs.Runs.{FarApart}
-use Rattle.search_rules.specs.Accepted.{Accepted, EachTaken, TakenWith, FromForty, StartTaken, FromZero, BeganTaken, Unbroken, StepTaken}
+use Rattle.search_rules.specs.Accepted.{Accepted, Between, EachTaken, TakenWith, FromForty, StartTaken, FromZero, BeganTaken, Unbroken, StepTaken}
 use Rattle.search_rules.proofs.Apart.{far-apart, qualified}
 use Rattle.search_rules.proofs.Gaps.{start-gap, held-gap}
 use Rattle.search_rules.proofs.Checking.{start-checks, step-checks, step-passed, step-passes}
@@ -58,7 +58,7 @@ module _ (s : Settings) (t : List Float) where
     entries-f32 = f32;
   }
 
-  -- ---- today's start
+  -- ---- as Req 05 has it
   pub start-only : Accepted (startSays s t) → StartTaken s t
   unfolding startSays
   start-only a = taken-only gapStarts FromForty start-gap s t (value (begun s (levelsIn t))) (a .0) (a .1) .0
@@ -73,7 +73,16 @@ module _ (s : Settings) (t : List Float) where
   pub start-exactly : Accepted (startSays s t) ↔ StartTaken s t
   start-exactly = (start-only, λ (h : StartTaken s t). (begun s (levelsIn t), start-given h))
 
-  -- ---- document 01's
+  -- "number 2 for a gap below 40", whatever the table, and so for a search with any work buffer
+  small-gap : {A : Type 0} (x : Said A) → Between 1 16 (s .k) → lt (s .gap) (f32Of 40) ≡ true → startChecked s t x ≡ refused 2
+  unfolding startCheckedBy gapStarts
+  small-gap x count below = rw (count-taken (s .k) count, below, and-false (gapTaken (s .gap)))
+
+  pub below-40 : Between 1 16 (s .k) → lt (s .gap) (f32Of 40) ≡ true → (startSays s t ≡ refused 2) × ((room : ℕ) → searchSays s t room ≡ refused 2)
+  unfolding startSays searchSays
+  below-40 count below = (small-gap _ count below, λ (room : ℕ). small-gap _ count below)
+
+  -- ---- as document 01 had it
   pub began-only : Accepted (beganSays s t) → BeganTaken s t
   unfolding beganSays
   began-only a = taken-only gapHeld FromZero held-gap s t (value (begun s (levelsIn t))) (a .0) (a .1) .0
@@ -85,7 +94,7 @@ module _ (s : Settings) (t : List Float) where
   pub began-exactly : Accepted (beganSays s t) ↔ BeganTaken s t
   began-exactly = (began-only, λ (h : BeganTaken s t). (begun s (levelsIn t), began-given h))
 
-  -- what today's start takes, document 01's took, with the same job
+  -- what a start takes, document 01's took, with the same job
   pub also-began : StartTaken s t → BeganTaken s t
   also-began h = record { hue-count = h .hue-count; gap = h .gap .0; whole-levels = h .whole-levels; levels = h .levels; entries = h .entries }
 

@@ -1,6 +1,6 @@
 -- A step of a record that is not broken, over a table that is taken, with room enough: it is accepted, the record stays unbroken with the same settings and the next position,
--- and its best is kept or becomes this pair's (`step-goes`). So all steps that are left are accepted (`steps-go`), a start and all its steps are, today's start and document 01's
--- (`all-accepted`, `all-kept`), and what `search` says is what they leave. Assumes nothing.
+-- and its best is kept or becomes this pair's (`step-goes`). So all steps that are left are accepted (`steps-go`), a start and all its steps are, and document 01's start and all its
+-- steps (`all-accepted`, `all-kept`), and what `search` says is what they leave. Assumes nothing.
 use mathlib.Core.Path.{_≡_, refl, sym, ap, _∙_, subst}
 use mathlib.Core.Logic.{_⊎_, inl, inr}
 use mathlib.Core.Bool.{Bool, true, false, cond}
@@ -220,7 +220,7 @@ module _ (t : List Float) (good : Good t) (work : List ℕ) (room : workNeeded 7
         still-unbroken = ap (λ (x : Job). unbroken (run (steps n t work) x)) k ∙ r .still-unbroken;
       }
 
-  -- ---- from a start, today's or document 01's
+  -- ---- from document 01's start, or from a start
   module _ (s : Settings) where
     abbrev all : ℕ
     all = levelsIn t * levelsIn t
@@ -241,7 +241,7 @@ module _ (t : List Float) (good : Good t) (work : List ℕ) (room : workNeeded 7
       all-kept j = opened (began s t) j (began-given s t takes) refl refl
 
     module _ (startable : StartTaken s t) where
-      -- and so are today's start and all its steps
+      -- and so are a start and all its steps
       pub all-accepted : (j : Job) → (history (wholeSearch s t work) j ≡ since s all) × OverOneTable t (wholeSearch s t work) j
       all-accepted j = opened (also-began s t startable) (start s t) j (start-given s t startable) refl refl
 

@@ -1,5 +1,5 @@
 -- The promise of demand 3 is kept by an accepted step, whatever the record was as long as the promise held of it (`step-kept`), and opened by an accepted start
--- (`began-kept`, for document 01's start, which takes all that today's does). Assumes nothing.
+-- (`began-kept`, for document 01's start, which took all that a start takes). Assumes nothing.
 use mathlib.Core.Path.{_≡_, refl, sym, ap, _∙_, subst}
 use mathlib.Core.Bool.{Bool, true, false, _&&_, cond}
 use mathlib.Core.List.{List, [], _∷_}

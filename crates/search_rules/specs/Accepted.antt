@@ -1,5 +1,5 @@
 -- When a call is accepted, by document 01's conditions in so many words, for number 8 by Req 04's, and for number 2 of a start by Req 05's: for a start numbers 1, 2, 6, 7, for
--- a step numbers 15, 14, 6, 8, 7. Beside today's start stands document 01's, which took smaller gaps.
+-- a step numbers 15, 14, 6, 8, 7. Beside it stands document 01's start, which took smaller gaps.
 -- Definitions only.
 use mathlib.Core.Path.{_≡_}
 use mathlib.Core.Bool.{true}
