@@ -1,4 +1,3 @@
-pub mod Evenly
 pub mod Accepted
 pub mod Named
 pub mod Set

@@ -22,12 +22,12 @@ use Rattle.placement_rules.specs.Placing.{stepFor}
 use Rattle.pair_rules.specs.Rows.{greater, valueAt, ringLength, leastRow, largestFrom, largest, common}
 use Rattle.pair_rules.specs.Pair.{none, found, bestOver, pairSays}
 use Rattle.pair_rules.specs.Limit.{Hues, Near}
+use Rattle.pair_rules.proofs.Evenly.{evenly, some-hues}
 use Rattle.pair_rules.proofs.Rows.{least-long, least-at}
 use Rattle.pair_rules.proofs.Choices.{value-plain, most-plain, value-most, common-plain, zero-plain}
 use Rattle.pair_rules.proofs.Promise.{best-is-near, near-by-fractions, none-is-none}
 use Rattle.level_set_rules.specs.Set.{rowsAt, setOver, setSays}
 use Rattle.level_set_rules.specs.Meant.{NoneAbove, SomeAbove, SetTaken}
-use Rattle.level_set_rules.proofs.Evenly.{evenly, some-hues}
 use Rattle.level_set_rules.proofs.Accepted.{set-only, set-given}
 use Rattle.level_set_rules.proofs.Named.{zero-f32, rows-f32, ring, lengths, entries, as-rows}
 

@@ -1,4 +1,5 @@
 pub mod Rows
+pub mod Evenly
 pub mod Choices
 pub mod Promise
 pub mod Cases

@@ -4,23 +4,23 @@
 -- (`kept-choice`, `new-choice`). Assumes nothing.
 use mathlib.Core.Path.{_≡_, refl, sym, subst}
 use mathlib.Core.Bool.{true}
-use mathlib.Core.List.{List, [], _∷_}
-use Prim.Native.Nat.{ℕ, zero, suc, _*_, _≤_, _<_}
+use mathlib.Core.List.{List, _∷_}
+use Prim.Native.Nat.{ℕ, suc, _*_, _≤_, _<_}
 use native.Mathlib.Nat.{mul-le-mul-right}
 use native.Mathlib.Omega.{arith}
 use lib.IntN.{pos}
 use lib.Ieee.{Float, binary32, round, add, sub, mul, ofInt, isNan, lt, le, eq}
 use lib.Ieee.Fits.{ofInt-fits}
-use lib.ListN.{length, getD, replicate, length-replicate}
+use lib.ListN.{length, replicate, length-replicate}
 use Rattle.limits.specs.Taken.{f32Of, gapTaken, upTo, signClear, signBit, entryTaken}
 use Rattle.limits.specs.Each.{Each, F32}
+use Rattle.limits.proofs.HueCount.{count-taken}
 use Rattle.limits.proofs.Lists.{each-same, every-true}
 use Rattle.gamut.specs.Gamut.{levelOf}
 use Rattle.gamut.proofs.Table.{levelled}
 use Rattle.gamut.proofs.Stacked.{stacked, stacked-each, stacked-levels, stacked-taken}
 use Rattle.placement_rules.specs.Placing.{stepFor, workNeeded}
-use Rattle.placement_rules.specs.Spacing.{Apart}
-use Rattle.pair_rules.specs.Limit.{Hues}
+use Rattle.pair_rules.proofs.Evenly.{evenly, some-hues}
 use Rattle.search_rules.specs.declared.Settings.{Settings}
 use Rattle.search_rules.specs.declared.Job.{Job}
 use Rattle.search_rules.specs.Job.{qualifies}
@@ -95,25 +95,7 @@ unfolding gapTaken upTo signClear signBit isNan lt le eq ofInt
 new-met j = any-levels fifty long-50 taken-50 f32-50 83 (omega arith) (omega arith) (two-hues (f32Of 40)) (omega arith, omega arith) (refl, refl) j
 
 -- ---- a choice in each
-hues-there : Hues 720 2 (stepFor 2) (0 ∷ 301 ∷ [])
-unfolding stepFor
-hues-there = record { count = refl; within = inside; allowed = λ (p : ℕ) (h : p < 2). refl; apart = far }
-  where
-    inside : (p : ℕ) → p < 2 → getD (0 ∷ 301 ∷ []) p 0 < 720
-    inside zero h = omega arith
-    inside (suc zero) h = omega arith
-    inside (suc (suc p)) h = absurd (omega arith)
-
-    far : (p q : ℕ) → p < 2 → q < 2 → (p ≡ q → ⊥) → Apart 720 301 (getD (0 ∷ 301 ∷ []) p 0) (getD (0 ∷ 301 ∷ []) q 0)
-    far zero zero h k d = absurd (d refl)
-    far zero (suc zero) h k d = (omega arith, omega arith)
-    far (suc zero) zero h k d = (omega arith, omega arith)
-    far (suc zero) (suc zero) h k d = absurd (d refl)
-    far zero (suc (suc q)) h k d = absurd (omega arith)
-    far (suc zero) (suc (suc q)) h k d = absurd (omega arith)
-    far (suc (suc p)) q h k d = absurd (omega arith)
-
--- the first and the last of n + 1 levels, with those hues
+-- the first and the last of n + 1 levels, with the hues 0 and 301
 there : (gap : Float) (n : ℕ) → FromZero gap → 0 < n → n < 169 → qualifies (two-hues gap) 0 n ≡ true → Choice (levels-of-50 (suc n)) (two-hues gap) (suc n * suc n)
 there gap n held some few far =
     let e = stacked-levels fifty long-50 (suc n) in
@@ -121,12 +103,12 @@ there gap n held some few far =
     record {
       dark = 0;
       light = n;
-      hues = 0 ∷ 301 ∷ [];
+      hues = evenly (stepFor 2) 2 0;
       dark-in = omega arith;
       light-in = omega arith;
       gone-through = omega arith;
       far = far-apart (two-hues gap) held 0 n (omega arith) few far;
-      spaced = hues-there;
+      spaced = some-hues 2 (count-taken 2 (omega arith, omega arith));
     }
 
 pub kept-choice : Choice (levels-of-50 3) (two-hues (f32Of 0)) 9
