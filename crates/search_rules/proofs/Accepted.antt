@@ -32,6 +32,10 @@ use Rattle.search_rules.proofs.Checking.{start-checks, step-checks, ste
 use Rattle.search_rules.proofs.Unbroken.{unbroken-exactly}
 use Rattle.search_rules.proofs.Rows.{Good}
 
+-- an answer has one job
+pub same-job : (x y : Job) → _≡_ {A = Said Job} (value x) (value y) → x ≡ y
+same-job x y h = cc
+
 -- ---- start
 -- over its test of the gap, and what that asks
 module _ (gaps : Float → Bool) (Gap : Float → Type 0) (exactly : (gap : Float) → (gaps gap ≡ true) ↔ Gap gap) (s : Settings) (t : List Float) where
@@ -83,16 +87,16 @@ module _ (s : Settings) (t : List Float) where
   below-40 count below = (small-gap _ count below, λ (room : ℕ). small-gap _ count below)
 
   -- ---- as document 01 had it
-  pub began-only : Accepted (beganSays s t) → BeganTaken s t
+  pub began-leaves : (j : Job) → beganSays s t ≡ value j → BeganTaken s t × (begun s (levelsIn t) ≡ j)
   unfolding beganSays
-  began-only a = taken-only gapHeld FromZero held-gap s t (value (begun s (levelsIn t))) (a .0) (a .1) .0
+  began-leaves j e = let f = taken-only gapHeld FromZero held-gap s t (value (begun s (levelsIn t))) j e in (f .0, same-job (begun s (levelsIn t)) j (f .1))
 
   pub began-given : BeganTaken s t → beganSays s t ≡ value (begun s (levelsIn t))
   unfolding beganSays
   began-given h = taken-passing gapHeld FromZero held-gap s t h (value (begun s (levelsIn t)))
 
   pub began-exactly : Accepted (beganSays s t) ↔ BeganTaken s t
-  began-exactly = (began-only, λ (h : BeganTaken s t). (begun s (levelsIn t), began-given h))
+  began-exactly = (λ (a : Accepted (beganSays s t)). began-leaves (a .0) (a .1) .0, λ (h : BeganTaken s t). (begun s (levelsIn t), began-given h))
 
   -- what a start takes, document 01's took, with the same job
   pub also-began : StartTaken s t → BeganTaken s t

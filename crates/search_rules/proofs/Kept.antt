@@ -8,11 +8,11 @@ use native.Mathlib.Nat.{mod-lt, div-lt-iff-lt-mul, div-add-mod', not-suc-le-zero
 use native.Mathlib.Omega.{arith}
 use lib.Ieee.{Float, binary32, toBits, lt, le}
 use lib.ListN.{length, take, replicate}
-use Rattle.limits.specs.Answers.{Said, value, refused}
+use Rattle.limits.specs.Answers.{value, refused}
 use Rattle.limits.specs.Taken.{f32Of, hueCountTaken, entryTaken, every}
 use Rattle.limits.specs.Each.{Each, F32}
 use Rattle.limits.proofs.Floats.{never}
-use Rattle.limits.proofs.HueCount.{hue-count}
+use Rattle.limits.proofs.HueCount.{hue-count, count-taken}
 use Rattle.limits.proofs.Checks.{all-pass}
 use Rattle.halving.specs.Patterns.{next}
 use Rattle.halving.proofs.Plain.{Plain, le-through, not-le-lt, lt-then-le, not-lt-le, le-not-lt, next-plain, next-above, next-le}
@@ -27,14 +27,15 @@ use Rattle.search_rules.specs.declared.Settings.{Settings}
 use Rattle.search_rules.specs.declared.Best.{Best}
 use Rattle.search_rules.specs.declared.Best.the-variants.{None, Found}
 use Rattle.search_rules.specs.declared.Job.{Job}
-use Rattle.search_rules.specs.Job.{gapHeld, bestHeld, unbroken, qualifies, floorOf, beats, movedOn, replaced, afterPair, pairBest, searched, stepChecked, stepSays, begun, startCheckedBy, beganSays}
+use Rattle.search_rules.specs.Job.{gapHeld, bestHeld, unbroken, qualifies, floorOf, beats, movedOn, replaced, afterPair, pairBest, searched, stepChecked, stepSays, beganSays}
 use Rattle.search_rules.specs.Runs.{Choice, commonOf, Promise}
 use Rattle.search_rules.proofs.Apart.{far-apart, qualified}
-use Rattle.search_rules.proofs.Checking.{start-checks, step-checks, step-passed}
+use Rattle.search_rules.proofs.Checking.{step-checks, step-passed}
 use Rattle.search_rules.proofs.Unbroken.{sound}
 use Rattle.search_rules.proofs.Floor.{BestF32, floor-f32, floor-from, floor-taken, chroma-plain, thirty-five, held-chroma}
 use Rattle.search_rules.proofs.Rows.{Good, shape, rows-f32, round-the-row, round-the-circle, choice-plain, pair-says}
 use Rattle.search_rules.proofs.Choices.{later, by-place}
+use Rattle.search_rules.proofs.Accepted.{same-job, began-leaves, good-table}
 
 -- ---- the promise over one accepted step
 -- the promise with what it needs to go on: a table that is taken, and a chroma that is an f32
@@ -218,9 +219,6 @@ module _ (t : List Float) (s : Settings) (n : ℕ) (j : Job) (kept : Kept t s n 
             floor-plain = chroma-plain (floorOf (j .best)) F₀ (floor-taken (j .levels) (j .best) best-held) .0
 
 -- ---- an accepted step
-pub same-job : (x y : Job) → _≡_ {A = Said Job} (value x) (value y) → x ≡ y
-same-job x y h = cc
-
 module _ (t : List Float) (j : Job) (kept : Kept t (j .settings) (j .position) j) (u : unbroken j ≡ true) (unfinished : j .position < j .levels * j .levels) where
   abbrev s : Settings
   s = j .settings
@@ -327,13 +325,12 @@ step-kept t s n j j' room kept h =
 
 -- ---- an accepted start, by document 01
 pub began-kept : (s : Settings) (t : List Float) (j' : Job) → Each F32 t → beganSays s t ≡ value j' → Kept t s 0 j'
-unfolding beganSays startCheckedBy
 began-kept s t j' F h =
-    let f = all-pass (start-checks gapHeld s t) (value (begun s (levelsIn t))) j' h in
-    subst (Kept t s 0) (same-job (begun s (levelsIn t)) j' (f .1)) (record {
-      good = record { levels-taken = f .0 .1 .1 .0; entries-taken = f .0 .1 .1 .1 .0; entries-f32 = F };
-      gap-held = f .0 .1 .0;
-      some-hue = f .0 .0;
+    let (taken, same) = began-leaves s t j' h in
+    subst (Kept t s 0) same (record {
+      good = good-table s t taken F;
+      gap-held = taken .gap;
+      some-hue = count-taken (s .k) (taken .hue-count);
       chroma-f32 = tt;
       promise = record {
         position-is = refl;

@@ -1,7 +1,7 @@
 -- Req 05: "Jobs already begun with a smaller gap are kept and run to their end, and no call finds them broken for it. What is promised about the best chroma covers both kinds of
 -- job: for a kept one, the start that document 01 gave it counts as accepted and opens its list." Whatever calls follow document 01's start over its table, the promise of
--- demand 3 holds after them (`kept-jobs`). Every record that is not broken, whatever its gap, runs to its end (`runs-to-end`); and so does the job after any list of calls with
--- a start in it that was accepted, which is then the list with those steps behind it (`finishes`). Assumes nothing.
+-- demand 3 holds after them (`kept-jobs`). Every record that is not broken, whatever its gap, runs to its end (`runs-to-end`). So does the job after any list of calls once a
+-- start in it was accepted, and with those steps behind it that list is one in which every pair was gone through (`finishes`). Assumes nothing.
 use mathlib.Core.Path.{_≡_, refl, sym, ap, _∙_, subst}
 use mathlib.Core.Bool.{true}
 use mathlib.Core.List.{List, [], _∷_, _++_}
@@ -12,23 +12,21 @@ use lib.Ieee.{Float}
 use lib.ListN.{length}
 use borrow.Author.Tests.{le-ltb}
 use Rattle.limits.specs.Answers.{Said, value, refused}
-use Rattle.limits.specs.Taken.{entryTaken}
 use Rattle.limits.specs.Each.{Each, F32}
-use Rattle.limits.proofs.Lists.{every-true}
 use Rattle.gamut.specs.Table.{levelsIn}
-use Rattle.gamut.proofs.Table.{table-taken, levels-by}
+use Rattle.gamut.proofs.Table.{levels-by}
 use Rattle.placement_rules.proofs.Room.{one-lap}
 use Rattle.search_rules.specs.declared.Settings.{Settings}
 use Rattle.search_rules.specs.declared.Job.{Job}
-use Rattle.search_rules.specs.Job.{begun, beganSays, unbroken, stepChecked, stepSays, jobAfter}
+use Rattle.search_rules.specs.Job.{beganSays, unbroken, stepChecked, stepSays, jobAfter}
 use Rattle.search_rules.specs.Runs.{Call, start, began, step, given, run, History, unstarted, since, noted, historyFrom, history, OverOneTable, Promise, steps}
 use Rattle.search_rules.specs.Accepted.{BeganTaken, EachTaken, Unbroken, RunsToEnd}
 use Rattle.search_rules.proofs.Unbroken.{sound, unbroken-exactly}
 use Rattle.search_rules.proofs.Floor.{BestF32}
 use Rattle.search_rules.proofs.Rows.{Good}
-use Rattle.search_rules.proofs.Kept.{Kept, same-job, began-kept, step-kept}
+use Rattle.search_rules.proofs.Kept.{Kept, began-kept, step-kept}
 use Rattle.search_rules.proofs.Runs.{after-calls, whole-runs}
-use Rattle.search_rules.proofs.Accepted.{began-only, began-given, step-only}
+use Rattle.search_rules.proofs.Accepted.{same-job, began-leaves, began-given, good-table, step-only}
 use Rattle.search_rules.proofs.Goes.{step-goes, steps-lent, steps-count, steps-go, begun-unbroken}
 
 -- ---- the promise
@@ -84,9 +82,8 @@ runs-to-end j t work whole chroma long entries f32 room =
     let same = levels-by t (j .levels) long in
     let some = whole .levels .0 in
     let few = whole .levels .1 in
-    let shape = table-taken t (record { long = long ∙ ap (λ (n : ℕ). n * 720) (sym same); some-level = omega arith; few-levels = omega arith }) in
-    let good : Good t = record { levels-taken = shape; entries-taken = every-true entryTaken t entries; entries-f32 = f32 } in
-    to-end t good work room j (unbroken-exactly j .1 whole) (sym same) chroma
+    let taken : BeganTaken (j .settings) t = record { hue-count = whole .hue-count; gap = whole .gap; whole-levels = long ∙ ap (λ (n : ℕ). n * 720) (sym same); levels = (omega arith, omega arith); entries = entries } in
+    to-end t (good-table (j .settings) t taken f32) work room j (unbroken-exactly j .1 whole) (sym same) chroma
 
 -- ---- behind any list of calls
 pub run-on : (calls others : List Call) (j : Job) → run (calls ++ others) j ≡ run others (run calls j)
@@ -111,8 +108,7 @@ module _ (t : List Float) (f32 : Each F32 t) where
 
   started : (s : Settings) (j : Job) → beganSays s t ≡ value j → Whole s 0 j
   started s j e =
-      let taken = began-only s t (j, e) in
-      let same = same-job (begun s (levelsIn t)) j (sym (began-given s t taken) ∙ e) in
+      let (taken, same) = began-leaves s t j e in
       (began-kept s t j f32 e, subst (λ (x : Job). unbroken x ≡ true) same (begun-unbroken s t taken))
 
   stepped : (s : Settings) (n : ℕ) (j j' : Job) (room : ℕ) → Whole s n j → stepSays j t room ≡ value j' → Whole s (suc n) j'

@@ -20,14 +20,14 @@ use Rattle.pair_rules.specs.Pair.{none, found}
 use Rattle.search_rules.specs.declared.Settings.{Settings}
 use Rattle.search_rules.specs.declared.Best.the-variants.{Found}
 use Rattle.search_rules.specs.declared.Job.{Job}
-use Rattle.search_rules.specs.Job.{gapHeld, begun, startCheckedBy, beganSays, qualifies, beats, movedOn, replaced, afterPair, pairBest, searched, stepChecked, stepSays, jobAfter, searchSays}
+use Rattle.search_rules.specs.Job.{begun, beganSays, qualifies, beats, movedOn, replaced, afterPair, pairBest, searched, stepChecked, stepSays, jobAfter, searchSays}
 use Rattle.search_rules.specs.Runs.{Call, run, since, history, OverOneTable, wholeSearch}
 use Rattle.search_rules.specs.Accepted.{Accepted, StartTaken}
 use Rattle.search_rules.specs.Loops.{Solution, unsolved, improved, tried, loop, overLight, twoLoops}
-use Rattle.search_rules.proofs.Checking.{start-checks, step-checks}
+use Rattle.search_rules.proofs.Checking.{step-checks}
 use Rattle.search_rules.proofs.Positions.{last-turn, at, rows}
 use Rattle.search_rules.proofs.Runs.{after-calls}
-use Rattle.search_rules.proofs.Accepted.{search-only, good-table}
+use Rattle.search_rules.proofs.Accepted.{began-leaves, search-only, good-table}
 use Rattle.search_rules.proofs.Goes.{all-accepted, search-is-run}
 
 -- ---- one step
@@ -73,8 +73,8 @@ module _ (t : List Float) where
 
   -- an accepted start leaves none so far
   started : (s : Settings) (j : Job) → beganSays s t ≡ value j → j ≡ jobOf s m 0 (gone s 0)
-  unfolding beganSays startCheckedBy loop
-  started s j h = sym (ap (jobAfter j) (all-pass (start-checks gapHeld s t) (value (begun s m)) j h .1))
+  unfolding loop
+  started s j h = sym (began-leaves s t j h .1)
 
   -- an accepted step goes on to the next position
   stepped : (s : Settings) (n : ℕ) (j j' : Job) (room : ℕ) → j ≡ jobOf s m n (gone s n) → stepSays j t room ≡ value j' → j' ≡ jobOf s m (suc n) (gone s (suc n))
