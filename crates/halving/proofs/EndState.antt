@@ -135,6 +135,13 @@ is-35 : f32Of 35 ≡ ofBits binary32 1108082688
 unfolding ofInt ofBits
 is-35 = refl
 
+-- an f32 of 35 or more, by its pattern
+pub from-35 : (x : Float) → Plain x → le (f32Of 35) x ≡ true → 1108082688 ≤ toBits binary32 x
+from-35 x p l =
+    let h : le (ofBits binary32 1108082688) x ≡ true = subst (λ (y : Float). le y x ≡ true) is-35 l in
+    let z = le-plain (ofBits binary32 1108082688) x (pattern-plain 1108082688 (omega arith)) p in
+    subst (λ (n : ℕ). n ≤ toBits binary32 x) (bits-of 1108082688 (omega arith)) (leb-true (toBits binary32 (ofBits binary32 1108082688)) (toBits binary32 x) (sym z ∙ h))
+
 module _ (ok : Float → Bool) (lo hi : Float) (F : T (fits binary32 lo)) (G : T (fits binary32 hi)) (L : upTo (f32Of 200) lo ≡ true) (H : upTo (f32Of 200) hi ≡ true) (o : le lo hi ≡ true) where
   abbrev p : ℕ
   p = toBits binary32 lo
@@ -153,10 +160,7 @@ module _ (ok : Float → Bool) (lo hi : Float) (F : T (fits binary32 lo)) (G : T
   end-state l = subst Closed (sym (patterns ∙ e .is)) (closed (below-or-not (e .low) (e .high)))
     where
       from : 1108082688 ≤ p
-      from =
-          let h : le (ofBits binary32 1108082688) lo ≡ true = subst (λ (x : Float). le x lo ≡ true) is-35 l in
-          let z = le-plain (ofBits binary32 1108082688) lo (pattern-plain 1108082688 (omega arith)) (taken-plain lo F L .0) in
-          subst (λ (n : ℕ). n ≤ p) (bits-of 1108082688 (omega arith)) (leb-true (toBits binary32 (ofBits binary32 1108082688)) p (sym z ∙ h))
+      from = from-35 lo (taken-plain lo F L .0) l
 
       c : (e : Ended ok 30 p q) × (e .high ≤ suc (e .low))
       c = closing ok p q ordered (taken-plain hi G H .1) from

@@ -44,6 +44,8 @@ pub enum Refusal {
     Line,
     // 18: list of levels empty, or of more than 8
     LevelList,
+    // 19: buffer to write a text into shorter than what is written
+    TextBuffer,
 }
 
 // What some checks made one after the other found.
@@ -78,6 +80,7 @@ impl Refusal {
             Refusal::Operand => 16,
             Refusal::Line => 17,
             Refusal::LevelList => 18,
+            Refusal::TextBuffer => 19,
         }
     }
 }

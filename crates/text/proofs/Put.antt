@@ -76,8 +76,11 @@ put-end text at bytes = go (leb at (length text)) refl
         put-past text (min at (length text)) bytes (omega arith) ∙ sym (put-past text at bytes l)
 
 -- ---- what a call hands back: no byte, bytes past the text's end, and one byte
+pub puts-nothing : (text : List ℕ) (at : ℕ) → at ≤ length text → PutIn text at [] text at
+puts-nothing text at h = record { holds = sym (put-nil text at); ends = omega arith }
+
 pub puts-none : (text : List ℕ) → PutIn text 0 [] text 0
-puts-none text = record { holds = sym (put-nil text 0); ends = omega arith }
+puts-none text = puts-nothing text 0 (omega arith)
 
 pub puts-past : (text : List ℕ) (at : ℕ) (bytes : List ℕ) → length text ≤ at → PutIn text at bytes text (length text)
 puts-past text at bytes h = record { holds = sym (put-past text at bytes h); ends = omega arith }
@@ -109,6 +112,10 @@ module _ (text : List ℕ) (at : ℕ) (bytes copy : List ℕ) (i : ℕ) (copied 
 -- the text is as long as it was
 pub put-kept : {a b : List ℕ} {at r : ℕ} {xs : List ℕ} → PutIn a at xs b r → length b ≡ length a
 put-kept {a} {b} {at} {r} {xs} p = ap length (p .holds) ∙ put-length a at xs
+
+-- and the place after them lies within it
+pub put-within : {a b : List ℕ} {at r : ℕ} {xs : List ℕ} → PutIn a at xs b r → r ≤ length b
+put-within p = let e = p .ends in let l = put-kept p in omega arith
 
 -- some bytes are put, and then others
 pub puts-both : {a b c : List ℕ} {at m n : ℕ} {xs ys : List ℕ} → PutIn a at xs b m → PutIn b m ys c n → PutIn a at (xs ++ ys) c n
