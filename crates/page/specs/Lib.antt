@@ -1,0 +1,3 @@
+pub mod Chroma
+pub mod Page
+pub mod Inner
