@@ -5,6 +5,7 @@ pub mod hues;
 pub mod rubbish;
 
 ghost use mathlib.Core.Path.{_≡_};
+ghost use lib.Ieee.{binary32, ofBits};
 ghost use lib.ListN.{getD};
 ghost use Rattle.patterns.specs.Same.{sameFloat};
 
@@ -19,17 +20,23 @@ pub fn word_at(words: [u32; 24], at: usize) -> u32
 }
 
 // A word as a place or a length.
-pub fn size_of(word: u32) -> usize {
+pub fn size_of(word: u32) -> usize
+    ensures { λ r. ⌜ r ≡ word ⌝ }
+{
     word as usize
 }
 
 // The word at a place as a place or a length.
-pub fn size_at(words: [u32; 24], at: usize) -> usize {
+pub fn size_at(words: [u32; 24], at: usize) -> usize
+    ensures { λ r. ⌜ r ≡ getD words at 0 ⌝ }
+{
     size_of(word_at(words, at))
 }
 
 // The float of the word at a place.
-pub fn float_at(words: [u32; 24], at: usize) -> f32 {
+pub fn float_at(words: [u32; 24], at: usize) -> f32
+    ensures { λ r. ⌜ r ≡ ofBits binary32 (getD words at 0) ⌝ }
+{
     patterns::float_of(word_at(words, at))
 }
 

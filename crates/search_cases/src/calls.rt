@@ -32,7 +32,7 @@ fn held(outcome: Outcome, kept: bool, number: u32, expected: Job) -> Taken {
 
 // Takes a start.
 pub fn start(words: [u32; 24], count: usize, table: &[f32], lent: Job) -> Taken {
-    let settings = jobs::settings_said(words, 0);
+    let settings = case_jobs::settings_said(words);
     let expected = jobs::after(lent, settings, size_at(words, 3), 0, words, 4, count);
     let outcome = search::start(settings, table, lent);
     held(outcome, true, word_at(words, 2), expected)
@@ -130,7 +130,7 @@ pub fn search(
     work: &mut [u16],
     lent: Job,
 ) -> Taken {
-    let settings = jobs::settings_said(words, 0);
+    let settings = case_jobs::settings_said(words);
     let levels = table.len() / 720;
     let expected = jobs::after(lent, settings, levels, size_at(words, 4), words, 5, count);
     rubbish::fill(work, seed);

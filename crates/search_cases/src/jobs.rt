@@ -1,4 +1,4 @@
-// Job records: by the words of a line, held to one another, and in a digest.
+// Job records: after a line, held to one another, and in a digest.
 use crate::operations;
 use case_words::digest;
 use case_words::float_at;
@@ -102,14 +102,6 @@ fn best_said(words: [u32; 24], from: usize, count: usize) -> Best {
     Best::None
 }
 
-// The settings by two words from one of them on.
-pub fn settings_said(words: [u32; 24], from: usize) -> Settings {
-    Settings {
-        k: size_at(words, from),
-        gap: float_at(words, std::num::wrapping_add_usize(from, 1)),
-    }
-}
-
 // The job after an accepted call, with the best and the hues that the words from one of them on say, or with none and zeros
 // where there are no more words; after a refused one, which has fewer words, the job that it was lent.
 pub fn after(
@@ -135,45 +127,12 @@ pub fn after(
     }
 }
 
-// A job by the words of its line, with none so far.
-fn said(words: [u32; 24], count: usize) -> Job {
-    let settings = settings_said(words, 0);
-    let hues = hues::all_said(words, 4, count);
-    Job {
-        settings,
-        levels: size_at(words, 2),
-        position: size_at(words, 3),
-        best: Best::None,
-        hues,
-    }
-}
-
-// The same job with the best that words say.
-fn with_best(job: Job, words: [u32; 24]) -> Job {
-    let settings = job.settings;
-    let hues = job.hues;
-    let best = best_said(words, 0, 3);
-    Job {
-        settings,
-        levels: job.levels,
-        position: job.position,
-        best,
-        hues,
-    }
-}
-
 // The job after a line that sets it.
 pub fn set(line: Line, job: Job) -> Job {
     let operation = line.operation;
     let words = line.words;
     match operation {
-        operations::JOB => said(words, line.count),
-        _ => with_best(job, words),
+        operations::JOB => case_jobs::job_said(words, line.count),
+        _ => case_jobs::with_best(job, words),
     }
-}
-
-// The job that the first call is lent where no line sets it.
-pub fn blank() -> Job {
-    let words = [0u32; 24];
-    said(words, 0)
 }

@@ -166,7 +166,7 @@ fn take_all(entries: &mut [f32; 122400]) -> Run {
     let mut state = State {
         run: Run::new(),
         length: 0,
-        job: jobs::blank(),
+        job: case_jobs::blank(),
         list: [0u32; 24],
     };
     let mut turns = case_lines::TURNS;

@@ -1,0 +1,18 @@
+-- `case_words::float_at` meets its contract. Assumes nothing.
+use mathlib.Core.Path.{ap, _∙_}
+use lib.Ieee.{binary32, ofBits}
+use borrow.Author.Needs.{needs}
+use Rattle.case_words.proofs.float_at.Statement.{statement}
+use Rattle.case_words.proofs.float_at.Tie as tie
+
+word-at-requires : tie.Need-word-at-requires
+word-at-requires c κs = search needs
+
+float-of-requires : tie.Need-float-of-requires
+float-of-requires c κs = search needs
+
+returns : tie.Need-returns
+returns c = c .float-of .ensures ∙ ap (ofBits binary32) (c .before .word-at .ensures)
+
+pub float-at-spec : {M : Type 1} → statement M
+float-at-spec = tie.close (tie.spec word-at-requires float-of-requires returns)
