@@ -70,15 +70,8 @@ fn answer(operation: &str, input: &[u32], cos: &[f32], sin: &[f32]) -> Vec<u32> 
 /// What the lists of placements, pairs and searches put beside the published file.
 pub const REFUSALS: &str = "the refusals of documents 01 and 02";
 
-/// Writes the head of a list of cases of this kind, over this published file with this beside it,
-/// made by this command.
-pub fn head(
-    out: &mut dyn Write,
-    kind: &str,
-    source: &str,
-    with: &str,
-    command: &str,
-) -> io::Result<()> {
+/// Writes the first lines of a list of cases of this kind, made by this command.
+pub fn title(out: &mut dyn Write, kind: &str, command: &str) -> io::Result<()> {
     writeln!(
         out,
         "# {kind} cases, one a line: operation, inputs, outputs, in hexadecimal."
@@ -90,7 +83,19 @@ pub fn head(
     writeln!(
         out,
         "# Made by: compare/build && target/compare/driver {command}"
-    )?;
+    )
+}
+
+/// Writes the head of a list of cases of this kind, over this published file with this beside it,
+/// made by this command.
+pub fn head(
+    out: &mut dyn Write,
+    kind: &str,
+    source: &str,
+    with: &str,
+    command: &str,
+) -> io::Result<()> {
+    title(out, kind, command)?;
     writeln!(out, "# The outputs are those of {source} of the repository")?;
     writeln!(out, "# TheRincon/lcr-codes 7e9e1755be with {with}.")
 }

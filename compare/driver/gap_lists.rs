@@ -50,9 +50,9 @@ pub fn fixed(list: &mut Searches) -> io::Result<()> {
     Ok(())
 }
 
-/// A gap with the f32 on both sides.
-fn near(gap: f32) -> [f32; 3] {
-    [-1, 0, 1].map(|by| float_step(gap, by))
+/// A number with the f32 on both sides.
+pub fn near(v: f32) -> [f32; 3] {
+    [-1, 0, 1].map(|by| float_step(v, by))
 }
 
 /// Writes starts and searches over three levels with gaps at and beyond the ends of what a new job

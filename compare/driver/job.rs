@@ -2,12 +2,13 @@
 //! job is one that a start begins; a kept one was begun by document 01's start, which took smaller
 //! gaps too.
 
-use crate::cases::word;
+use crate::cases::{line, word};
 use crate::chroma::l_of;
 use crate::pairing;
 use crate::placement::takes;
 use crate::placing;
 use crate::standins::{DIRECTIONS, LEVELS};
+use std::io::{self, Write};
 
 /// Refusals: the hue count, the gap, the table's length, an entry, the work buffer, a finished
 /// job, a broken record.
@@ -36,6 +37,16 @@ pub struct Job {
     pub hues: [u16; 16],
 }
 
+/// The record of a list in which no line has set one.
+pub const BLANK: Job = Job {
+    k: 0,
+    gap: 0.0,
+    levels: 0,
+    position: 0,
+    best: None,
+    hues: [0; 16],
+};
+
 /// Whether a record may have this gap, and a best with one hue fixed be asked for with it.
 pub fn takes_gap(v: f32) -> bool {
     !v.is_nan() && v.is_sign_positive() && v <= 84.0
@@ -47,7 +58,7 @@ fn starts_gap(v: f32) -> bool {
 }
 
 /// Sixteen hues, zeros after the given ones.
-fn sixteen(given: impl Iterator<Item = usize>) -> [u16; 16] {
+pub fn sixteen(given: impl Iterator<Item = usize>) -> [u16; 16] {
     let mut hues = [0; 16];
     given.zip(&mut hues).for_each(|(hue, to)| *to = hue as u16);
     hues
@@ -66,6 +77,18 @@ impl Job {
             *to = u32::from(*hue);
         }
         words
+    }
+
+    /// Writes the lines of a list that set this record.
+    pub fn write(&self, out: &mut dyn Write) -> io::Result<()> {
+        let words = self.words();
+        let hues = words[8..].iter().rposition(|hue| *hue != 0);
+        let shown = [&words[..4], &words[8..8 + hues.map_or(0, |last| last + 1)]].concat();
+        line(out, "job", &shown)?;
+        if self.best.is_some() {
+            line(out, "best", &words[5..8])?;
+        }
+        Ok(())
     }
 
     /// The bytes of a record in a digest: hue count, gap, levels and position, whether there is
@@ -88,7 +111,7 @@ impl Job {
     }
 
     /// Whether every field is in its range.
-    fn is_whole(&self) -> bool {
+    pub fn is_whole(&self) -> bool {
         let shown = self.best.map_or(0, |_| self.k as usize);
         let held = |(i, hue): (usize, &u16)| *hue <= if i < shown { 719 } else { 0 };
         let below = |level: u32| level < self.levels;

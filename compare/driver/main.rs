@@ -1,5 +1,5 @@
 //! Writes lists of cases with the results of the published files, the stand-ins of
-//! document 01 put in. See compare/README.md.
+//! document 01 put in, and of pages, which they do not have. See compare/README.md.
 
 mod big;
 mod cases;
@@ -13,11 +13,14 @@ mod gamut;
 mod gamut_lists;
 mod gap_lists;
 mod job;
+mod layout;
 mod level_set;
 mod level_set_lists;
 mod lists;
 mod orientation;
 mod orientation_lists;
+mod page;
+mod page_lists;
 mod pair;
 mod pair_lists;
 mod pairing; // best_for_levels, best_for_level_set, search, best_at_orientation and their table, taken from the published file by compare/build
@@ -88,6 +91,11 @@ fn main() -> ExitCode {
             (Ok(seed), Ok(count)) => palette_lists::many(&mut out, seed, count),
             _ => return usage(),
         },
+        ["page-list"] => page_lists::fixed(&mut out),
+        ["page-many", seed, count] => match (seed.parse(), count.parse()) {
+            (Ok(seed), Ok(count)) => page_lists::many(&mut out, seed, count),
+            _ => return usage(),
+        },
         ["tables"] => tables(&mut out),
         ["check"] => check::all(&mut out),
         _ => return usage(),
@@ -110,6 +118,7 @@ fn usage() -> ExitCode {
     eprintln!("       driver search-list | search-many SEED COUNT | orientation-many SEED COUNT");
     eprintln!("       driver level-set-many SEED COUNT");
     eprintln!("       driver palette-list | palette-many SEED COUNT");
+    eprintln!("       driver page-list | page-many SEED COUNT");
     ExitCode::from(2)
 }
 

@@ -3,7 +3,7 @@
 use crate::cases::{head, line, word, wrong, REFUSALS};
 use crate::chroma::{l_of, max_chroma};
 use crate::gamut::digest;
-use crate::job::{self, Job, FINISHED, ROOM};
+use crate::job::{self, Job, BLANK, FINISHED, ROOM};
 use crate::rooms::{sides, Rooms};
 use crate::standins::{directions, DIRECTIONS, LEVELS};
 use std::io::{self, Write};
@@ -118,14 +118,7 @@ impl Searches<'_> {
             entries: vec![0.0; STORED],
             length: 0,
             rooms,
-            job: Job {
-                k: 0,
-                gap: 0.0,
-                levels: 0,
-                position: 0,
-                best: None,
-                hues: [0; 16],
-            },
+            job: BLANK,
             accepted: 0,
             of_kept: 0,
             refused: 0,
@@ -232,14 +225,7 @@ impl Searches<'_> {
     /// Sets the job that the next call is lent.
     pub fn lend(&mut self, job: Job) -> io::Result<()> {
         self.job = job;
-        let words = job.words();
-        let hues = words[8..].iter().rposition(|hue| *hue != 0);
-        let shown = [&words[..4], &words[8..8 + hues.map_or(0, |last| last + 1)]].concat();
-        line(self.out, "job", &shown)?;
-        if job.best.is_some() {
-            line(self.out, "best", &words[5..8])?;
-        }
-        Ok(())
+        job.write(self.out)
     }
 
     /// Sets the job that the next call is lent, unless it is this one.

@@ -138,7 +138,7 @@ pub const MIDST: Job = Job {
 };
 
 /// A record with every field out of its range.
-const WORST: Job = Job {
+pub const WORST: Job = Job {
     k: u32::MAX,
     gap: f32::NAN,
     levels: 0,

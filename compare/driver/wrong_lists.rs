@@ -4,10 +4,12 @@
 use crate::cases::{word, List};
 use crate::gamut::{chroma_words, lightness_words, Lent};
 use crate::gap_lists::even;
-use crate::job::{Job, BAD_GAP, BAD_WORK, BROKEN, FLOOR, LEAST_GAP, ROOM};
+use crate::job::{Job, BAD_GAP, BAD_WORK, BROKEN, FINISHED, FLOOR, LEAST_GAP, ROOM};
 use crate::level_set::LevelSets;
 use crate::lists::step as float_step;
 use crate::orientation::Orientations;
+use crate::page::{length, Pages, BAD_BUFFER, LINE, STORED};
+use crate::page_lists::{finished, with_none};
 use crate::pair::Pairs;
 use crate::palette_lists::{design, printed_designs};
 use crate::palettes::{Design, Palettes};
@@ -378,4 +380,60 @@ fn wrong_validations(list: &mut Palettes) -> io::Result<()> {
     list.wrong_validate(2, 4, last(2, 13))?;
     list.wrong_validate(2, 5, put(2, 12))?;
     list.wrong_validate(2, 5, put(2, 0))
+}
+
+/// Writes pages of which the number, the count or one half of the digest is another.
+pub fn pages(list: &mut Pages) -> io::Result<()> {
+    let one = finished(1);
+    for job in [one, with_none(one)] {
+        list.lend(job)?;
+        wrong_pages(list)?;
+    }
+    list.lend(one)?;
+    wrong_refusals(list, length(&one) - 1, BROKEN)?;
+    list.lend(Job { levels: 170, ..one })?;
+    wrong_refusals(list, STORED, BAD_BUFFER)?;
+    list.wrong(0, put(2, BAD_BUFFER))?;
+    list.lend(Job { gap: SMALL, ..one })?;
+    list.wrong(STORED, put(2, BROKEN))
+}
+
+/// Writes the page of a finished job in a buffer just long enough, as if it were refused, with another
+/// count, that of the bytes without newlines among them, and with another digest; and the last of
+/// these in a longer buffer too.
+fn wrong_pages(list: &mut Pages) -> io::Result<()> {
+    let n = length(&list.job());
+    for number in [BROKEN, FINISHED, BAD_BUFFER] {
+        list.wrong(n, put(2, number))?;
+    }
+    list.wrong(n, |words| {
+        words[2] = BAD_BUFFER;
+        words[3] = 0;
+    })?;
+    for count in [0, n - n / LINE] {
+        list.wrong(n, put(3, count as u32))?;
+    }
+    list.wrong(n, off(3))?;
+    for place in [4, 5] {
+        list.wrong(n, off(place))?;
+        list.wrong(n + 1, off(place))?;
+    }
+    Ok(())
+}
+
+/// Writes a refused page in a buffer of this size with this number in place of its own, as if it were
+/// not refused, with a count, and with another digest.
+fn wrong_refusals(list: &mut Pages, size: usize, other: u32) -> io::Result<()> {
+    let count = length(&list.job()) as u32;
+    list.wrong(size, put(2, other))?;
+    list.wrong(size, put(2, 0))?;
+    list.wrong(size, |words| {
+        words[2] = 0;
+        words[3] = count;
+    })?;
+    list.wrong(size, put(3, count))?;
+    for place in [3, 4, 5] {
+        list.wrong(size, off(place))?;
+    }
+    Ok(())
 }
