@@ -1,6 +1,8 @@
 // A whole palette, from table to colours. Standard input says what is asked and gives the 720 directions; the program fills the
-// sRGB table, searches it with progress in lines, and writes the levels, hues and chroma found with the limit beside the chroma;
-// then, of that one design, what validation says of its sRGB colours at that chroma, and the colours after back-off.
+// sRGB table, searches it with progress in lines, writes the page of the job for the service book, and the levels, hues and chroma
+// found with the limit beside the chroma; then, of that one design, what validation says of its sRGB colours at that chroma, and the
+// colours after back-off.
+mod book;
 mod colors;
 mod input;
 mod job;
@@ -74,6 +76,7 @@ fn search_in(table: &[f32], settings: Settings, cos: &[f32], sin: &[f32]) {
         return;
     }
     let last = searched.job;
+    book::write(last);
     finish(last, cos, sin);
 }
 

@@ -54,6 +54,7 @@ the job record is broken
 the operand is not in its range
 the line is malformed
 the list of levels is empty or has more than 8
+the buffer is shorter than the text to write
 ",
         number,
     );
