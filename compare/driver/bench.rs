@@ -1,6 +1,7 @@
 //! Times the filling of a whole gamut table, placements on rings of it, pairs of its rows, whole
-//! searches of it, its bests with one hue fixed and over sets of levels, and back-offs of what the
-//! searches find, by our archive and by the published Rust, in turns. See compare/README.md.
+//! searches of it, its bests with one hue fixed and over sets of levels, back-offs of what the
+//! searches find, and pages of jobs, by our archive and by the published Rust, or for pages by Rust's
+//! own formatting, in turns. See compare/README.md.
 
 mod back_offs;
 mod big;
@@ -9,11 +10,15 @@ mod chroma; // max_chroma and l_of, taken from the published file by compare/bui
 mod color; // the published file, patched by compare/build
 mod deriving; // derive and back_off, taken from the published file by compare/build
 mod findings;
+mod layout;
 mod level_sets;
 mod orientations;
+mod pages;
 mod pairing; // best_for_levels, best_for_level_set, search, best_at_orientation and their table, taken from the published file by compare/build
 mod palette; // the white point, taken from the published file by compare/build
 mod placing; // feasible, place_from and the step, taken from the published file by compare/build
+#[allow(dead_code)]
+mod random;
 #[allow(dead_code)]
 mod standins;
 #[allow(dead_code)]
@@ -22,8 +27,8 @@ mod validating; // a palette and its validation, taken from the published file b
 use standins::{BAD_DIRECTIONS, BAD_LEVEL, BAD_ROW, DIRECTIONS, LEVELS};
 use std::time::Instant;
 
-/// How many times each side fills its table, makes all placements, searches all pairs, and gives the
-/// bests of all sets of levels for one hue count.
+/// How many times each side fills its table, makes all placements, searches all pairs, gives the
+/// bests of all sets of levels for one hue count, and lays out all pages.
 const TURNS: usize = 41;
 /// How many times each side searches the whole table for one hue count.
 const SEARCH_TURNS: usize = 15;
@@ -559,7 +564,7 @@ fn searches(table: &[f32]) {
     println!("all searches are equal bit for bit");
 }
 
-/// Tries the refusals, then times the seven parts.
+/// Tries the refusals, then times the eight parts.
 fn main() {
     let (cos, sin) = standins::directions();
     refusals(&cos, &sin);
@@ -569,6 +574,7 @@ fn main() {
     orientations::refusals();
     level_sets::refusals();
     back_offs::refusals(&cos, &sin);
+    pages::refusals();
     let table = tables(&cos, &sin);
     placements(&table);
     bests(&table);
@@ -576,4 +582,5 @@ fn main() {
     orientations::all(&table);
     level_sets::all(&table);
     back_offs::all(&table, &cos, &sin);
+    pages::all();
 }

@@ -1,5 +1,6 @@
 -- What a call hands to a caller in another language, as one number. Definitions only.
 use Prim.Native.Nat.{ℕ, _+_}
+use mathlib.Core.Bool.{Bool, cond}
 use mathlib.Core.List.{List, [], _∷_, map}
 use lib.Ieee.{Float}
 use lib.ListN.{replicate}
@@ -10,6 +11,7 @@ use Rattle.search_rules.specs.declared.Best.the-variants.{None, Found}
 use Rattle.search_rules.specs.declared.Job.{Job}
 use Rattle.orientation_rules.specs.Orientation.{Best, none, found, huesBeside}
 use Rattle.srgb.specs.Parts.{toHex}
+use Rattle.page.specs.Page.{pageAfter}
 use Rattle.palette_checks.specs.declared.Design.{Design}
 use Rattle.palette.specs.Derivation.{colorsOf}
 use Rattle.palette.specs.BackOff.{Ending, passes, lastly}
@@ -44,6 +46,28 @@ abbrev pub orientationHands : ℕ → Said Best → List ℕ → List ℕ → Li
 orientationHands hue (value (found c d l partner)) hues levels chroma = handed 0 (huesBeside hue (value (found c d l partner))) (d ∷ l ∷ []) (c ∷ [])
 orientationHands hue (value none) hues levels chroma = handed 255 (huesBeside hue (value none)) levels chroma
 orientationHands hue (refused n) hues levels chroma = handed n hues levels chroma
+
+-- the best that four arguments make
+abbrev pub bestOf : Bool → Float → ℕ → ℕ → search.Best
+bestOf some c d l = cond some (Found c d l) None
+
+-- the job that its fields make
+abbrev pub jobOf : ℕ → Float → ℕ → ℕ → search.Best → List ℕ → Job
+jobOf k gap levels position best hues = record { settings = settingsOf k gap; levels = levels; position = position; best = best; hues = hues }
+
+-- what a page leaves a caller with: a number, the buffer, and one count of bytes
+pub record Paged : Type 0 where
+  pub number : ℕ
+  pub page : List ℕ
+  pub written : List ℕ
+
+abbrev pub paged : ℕ → List ℕ → List ℕ → Paged
+paged n page written = record { number = n; page = page; written = written }
+
+-- after a page of a job that says this: 0 with the page and how many bytes it has, or the number of the refusal with both as before
+abbrev pub pageHands : Said ℕ → Job → List ℕ → List ℕ → Paged
+pageHands (value n) j page written = paged 0 (pageAfter j page) (n ∷ [])
+pageHands (refused w) j page written = paged w page written
 
 -- the design that four arguments make
 abbrev pub designOf : ℕ → ℕ → ℕ → List ℕ → Design

@@ -1,6 +1,7 @@
 // Functions for callers in other languages, each exported under its own name. A slice is handed over as the address of its
 // first element, then its length; what is written must overlap nothing else that is handed over. A work buffer has at least one
 // entry for each position of the ring, 720 for a search or a set of levels; what it holds does not matter.
+use page::Laid;
 use palette::BackOff;
 use palette::Design;
 use search::Best;
@@ -18,10 +19,11 @@ ghost use Rattle.search_rules.specs.Job.{searchSays};
 ghost use Rattle.gamut.specs.Gamut.{fillSays, rowAfter};
 ghost use Rattle.srgb.specs.Parts.{toHex};
 ghost use Rattle.palette.specs.BackOff.{backOffSays};
+ghost use Rattle.page.specs.Page.{pageSays};
 ghost use Rattle.handing.specs.Numbers.{numberOf, placeNumber, huesAfter, bestNumber, bestHues, bestChroma};
 ghost use Rattle.orientation_rules.specs.Orientation.{orientationSays};
 ghost use Rattle.level_set_rules.specs.Set.{setSays};
-ghost use Rattle.exports.specs.Numbers.{settingsOf, handed, searchHands, orientationHands, designOf, backed, backOffHands};
+ghost use Rattle.exports.specs.Numbers.{settingsOf, handed, searchHands, orientationHands, bestOf, jobOf, paged, pageHands, designOf, backed, backOffHands};
 
 // What is given where no chroma is found.
 const NO_CHROMA: u32 = 255;
@@ -180,6 +182,54 @@ pub extern "C" fn tengcuvo_level_set(
         hues,
         chroma,
     )
+}
+
+// A best by whether there is one, its chroma and its level indices.
+fn best_of(found: bool, chroma: f32, dark: usize, light: usize) -> Best
+    ensures { λ r. ⌜ r ≡ bestOf found chroma dark light ⌝ }
+{
+    if found {
+        return Best::Found(chroma, dark, light);
+    }
+    Best::None
+}
+
+// The page of a job for the service book, of which the arguments up to the hues are the record: whether there is a best so far and, if
+// so, its chroma, its level indices and its hues, which are zeros after the first k, all of them zeros where there is none. Gives 0 with
+// the page from the first byte on and how many bytes it has, the rest of the buffer as before, or the number of a refusal, with both as
+// before. 861 bytes are enough for every page.
+#[no_mangle]
+pub extern "C" fn tengcuvo_page(
+    found: bool,
+    k: usize,
+    gap: f32,
+    levels: usize,
+    position: usize,
+    chroma: f32,
+    dark: usize,
+    light: usize,
+    hues: &[u16; 16],
+    page: &mut [u8],
+    written: &mut [usize; 1],
+) -> u32
+    ensures { λ r. ⌜ paged r (now (page .exit)) (now (written .exit)) ≡ pageHands (pageSays (jobOf k gap levels position (bestOf found chroma dark light) (now (hues .entry))) (length (now (page .entry)))) (jobOf k gap levels position (bestOf found chroma dark light) (now (hues .entry))) (now (page .entry)) (now (written .entry)) ⌝ }
+{
+    let indices = *hues;
+    let job = Job {
+        settings: Settings { k, gap },
+        levels,
+        position,
+        best: best_of(found, chroma, dark, light),
+        hues: indices,
+    };
+    let laid = page::lay_out(job, page);
+    match laid {
+        Laid::Refused(why) => why.number() as u32,
+        Laid::Bytes(count) => {
+            *written = [count];
+            0
+        }
+    }
 }
 
 // Thirty-two colours as 0xRRGGBB.
