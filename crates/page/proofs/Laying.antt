@@ -48,9 +48,6 @@ within-is best other e w = subst ChromaWithin e w
 
 -- ---- what is known of a record that is not broken
 module _ (j : Job) (u : unbroken j ≡ true) where
-  pub few : j .settings .k ≤ 16
-  few = unbroken-exactly j .0 u .hue-count .1
-
   pub within : ChromaWithin (j .best)
   within = go (j .best) (unbroken-exactly j .0 u .best)
     where

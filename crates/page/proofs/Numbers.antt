@@ -24,7 +24,7 @@ use Rattle.search_rules.proofs.Unbroken.{sound, best-in}
 use Rattle.page.specs.Chroma.{unitsOf, hundredths, remainder}
 use Rattle.page_lines.specs.Lines.{Row, row}
 use Rattle.page.specs.Page.{hueRows, rowsWith, rowsOf}
-use Rattle.page.proofs.Laying.{few}
+use Rattle.page.proofs.Rows.{few}
 
 -- ---- H
 units-most : (c : Float) → UpTo 200 c → unitsOf c ≤ 200 * 2 ^ 18

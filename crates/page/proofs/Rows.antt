@@ -28,9 +28,12 @@ bytes-are k (Found c d l) hues h =
     let m : length (hueRows (take k hues)) ≡ k = length-map (take k hues) (row hueWord) ∙ length-take-le k hues h in
     rows-long (rowsWith k (Found c d l) hues) (omega arith, (omega arith, (omega arith, (omega arith, (omega arith, hues-short (take k hues)))))) ∙ omega arith
 
+pub few : (j : Job) → unbroken j ≡ true → j .settings .k ≤ 16
+few j u = unbroken-exactly j .0 u .hue-count .1
+
 pub page-long : (j : Job) → length (j .hues) ≡ 16 → unbroken j ≡ true → length (pageOf j) ≡ bytesWith (j .settings .k) (j .best)
 unfolding pageOf
-page-long j n u = let k = unbroken-exactly j .0 u .hue-count .1 in bytes-are (j .settings .k) (j .best) (j .hues) (omega arith)
+page-long j n u = let k = few j u in bytes-are (j .settings .k) (j .best) (j .hues) (omega arith)
 
 -- ---- the rows of the hues
 hues-next : (hues : List ℕ) (i : ℕ) → i < length hues → hueRows (take (i + 1) hues) ≡ hueRows (take i hues) ++ row hueWord (getD hues i 0) ∷ []

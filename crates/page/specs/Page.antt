@@ -60,10 +60,11 @@ rowsWith k (Found c d l) hues = row huesWord k ∷ row darkWord d ∷ row lightW
 abbrev pub rowsOf : Job → List Row
 rowsOf j = rowsWith (j .settings .k) (j .best) (j .hues)
 
+-- the page: its lines, one after the other
 unfoldable pub pageOf : Job → List ℕ
 pageOf j = linesOf (rowsOf j)
 
--- how many bytes it has, for sixteen hues in a record: 41 for each line
+-- how many bytes it has where the record is not broken: 41 for each line
 abbrev pub bytesWith : ℕ → Best → ℕ
 bytesWith k None = 82
 bytesWith k (Found c d l) = 41 * (5 + k)
@@ -78,6 +79,7 @@ abbrev pub pageBy : Said ℕ → Job → List ℕ → List ℕ
 pageBy (value n) j before = over (pageOf j) before
 pageBy (refused n) j before = before
 
+-- the buffer after the call
 unfoldable pub pageAfter : Job → List ℕ → List ℕ
 pageAfter j before = pageBy (pageSays j (length before)) j before
 

@@ -3,18 +3,15 @@ use limits::Refusal;
 use search_rules::Best;
 use search_rules::Job;
 ghost use mathlib.Core.Path.{_≡_};
-ghost use mathlib.Core.Bool.{true};
 ghost use mathlib.Core.List.{[], _∷_};
 ghost use Prim.Native.Nat.{_*_, _≤_};
-ghost use lib.Ieee.{le};
 ghost use lib.ListN.{length, take};
-ghost use Rattle.limits.specs.Taken.{f32Of};
 ghost use Rattle.search_rules.specs.declared.Best.the-variants.{Found};
 ghost use Rattle.text.specs.Put.{PutIn};
 ghost use Rattle.page.specs.Chroma.{unitsOf, hundredths, remainder};
 ghost use Rattle.page_lines.specs.Lines.{row, lineOf, linesOf};
 ghost use Rattle.page.specs.Page.{huesWord, darkWord, lightWord, chromaWord, restWord, hueWord, noneWord, hueRows, rowsWith, bytesWith, pageSays, pageAfter, laidSaid};
-ghost use Rattle.page.specs.Inner.{ChromaWithin};
+ghost use Rattle.page.specs.Inner.{InRange, ChromaWithin};
 
 // What comes of laying a job out.
 pub enum Laid {
@@ -47,7 +44,7 @@ const UNITS: u64 = 262144;
 
 // A hundred times a chroma from 35 to 200, in units of 2^-18, of which each such f32 has a whole number.
 fn hundredfold(c: f32) -> u64
-    requires { ⌜ (le (f32Of 35) c ≡ true) × (le c (f32Of 200) ≡ true) ⌝ }
+    requires { ⌜ InRange c ⌝ }
     ensures { λ r. ⌜ r ≡ 100 * unitsOf c ⌝ }
 {
     let bits = f32::to_bits(c);
@@ -63,7 +60,7 @@ fn hundredfold(c: f32) -> u64
 
 // Puts a chroma in hundredths, and the remainder, at a place of a page, and gives the next place.
 fn put_chroma(page: &mut [u8], at: usize, c: f32) -> usize
-    requires { ⌜ (le (f32Of 35) c ≡ true) × (le c (f32Of 200) ≡ true) ⌝ }
+    requires { ⌜ InRange c ⌝ }
     ensures { λ r. ⌜ PutIn (now (page .entry)) at (linesOf (row chromaWord (hundredths c) ∷ row restWord (remainder c) ∷ [])) (now (page .exit)) r ⌝ }
 {
     let n = hundredfold(c);
@@ -111,7 +108,7 @@ fn put_levels(page: &mut [u8], k: usize, dark: usize, light: usize) -> usize
 
 // Puts the page of k hues at a chroma on two levels, and gives its length where there is room for it.
 fn put_found(page: &mut [u8], k: usize, c: f32, dark: usize, light: usize, hues: [u16; 16]) -> usize
-    requires { ⌜ (k ≤ 16) × ((le (f32Of 35) c ≡ true) × (le c (f32Of 200) ≡ true)) ⌝ }
+    requires { ⌜ (k ≤ 16) × InRange c ⌝ }
     ensures { λ r. ⌜ PutIn (now (page .entry)) 0 (linesOf (rowsWith k (Found c dark light) hues)) (now (page .exit)) r ⌝ }
 {
     let levels = put_levels(page, k, dark, light);

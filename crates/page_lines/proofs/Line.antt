@@ -114,13 +114,17 @@ aligned-long : (n : ℕ) → length (aligned n) ≡ 30
 unfolding aligned
 aligned-long n = let l = numeral-most n in omega (arith, length-append (replicate (30 - length (numeral n)) 32) (numeral n), length-replicate {A = ℕ} (30 - length (numeral n)) 32)
 
+-- the last byte of ten bytes, thirty and a newline
+last-byte : (field thirty : List ℕ) → length field ≡ 10 → length thirty ≡ 30 → drop 40 (field ++ (thirty ++ 10 ∷ [])) ≡ 10 ∷ []
+last-byte field thirty h k = ap (drop 40) (sym (append-assoc field thirty (10 ∷ []))) ∙ drop-at (field ++ thirty) (10 ∷ []) 40 (omega (arith, length-append field thirty))
+
 long-line : (field : List ℕ) (n : ℕ) → length field ≡ 10 → (length (lineWith field n) ≡ 41) × (drop 40 (lineWith field n) ≡ 10 ∷ [])
 unfolding lineWith
 long-line field n h =
     let a = aligned-long n in
     let l = length-append field (aligned n ++ 10 ∷ []) in
     let m = length-append (aligned n) (10 ∷ []) in
-    (omega arith, ap (drop 40) (sym (append-assoc field (aligned n) (10 ∷ []))) ∙ drop-at (field ++ aligned n) (10 ∷ []) 40 (omega (arith, length-append field (aligned n))))
+    (omega arith, last-byte field (aligned n) h a)
 
 pub line-long : (word : List ℕ) (n : ℕ) → length word ≤ 10 → (length (lineOf (row word n)) ≡ 41) × (drop 40 (lineOf (row word n)) ≡ 10 ∷ [])
 line-long word n h = long-line (padded word) n (padded-long word h)
@@ -139,7 +143,7 @@ line-is field line r n h e f =
     ∙ ap (take (length field + (30 - g))) w
     ∙ take-append-add field (spaces 30 ++ 10 ∷ []) (30 - g)
     ∙ ap (λ (l : List ℕ). field ++ l) (ap (λ (k : ℕ). take (30 - g) (spaces k ++ 10 ∷ [])) b ∙ taken (30 - g) g (10 ∷ [])) in
-    let back : drop 40 line ≡ 10 ∷ [] = ap (drop 40) (w ∙ sym (append-assoc field (spaces 30) (10 ∷ []))) ∙ drop-at (field ++ spaces 30) (10 ∷ []) 40 (omega (arith, length-append field (spaces 30))) in
+    let back : drop 40 line ≡ 10 ∷ [] = ap (drop 40) w ∙ last-byte field (spaces 30) h refl in
     f
     ∙ ap (λ (l : List ℕ). l ++ (numeral n ++ drop 40 line)) front
     ∙ ap (λ (l : List ℕ). (field ++ spaces (30 - g)) ++ (numeral n ++ l)) back

@@ -1,5 +1,5 @@
 -- A number of up to thirty digits in decimal: read back by tens it is the number (`numeral-read`), each byte is a digit (`numeral-digits`), the first is 0 only in 0 itself
--- (`numeral-leads`), and below 10^m it has at most m of them (`numeral-long`). Below 1,000 it is `decimal` (`decimal-numeral`). Assumes nothing.
+-- (`numeral-leads`), and below 10^m, for m from 1 up, it has at most m of them (`numeral-long`). Below 1,000 it is `decimal` (`decimal-numeral`). Assumes nothing.
 use mathlib.Core.Path.{_≡_, refl, ap, _∙_}
 use mathlib.Core.Bool.{Bool, true, false, cond}
 use mathlib.Core.List.{List, [], _∷_}
@@ -47,7 +47,7 @@ pub numeral-leads : (n : ℕ) → 0 < n → n < 10 ^ 30 → 49 ≤ getD (numeral
 unfolding numeral
 numeral-leads n p h = leads 30 (ltb n 10) n [] refl p h
 
--- ---- how long it is: m more digits are enough below 10^m, and there is one at least
+-- ---- how long it is: below 10^m, for m from 1 up, m digits are enough
 long : (f m : ℕ) (t : Bool) (n : ℕ) (so : List ℕ) → ltb n 10 ≡ t → n < 10 ^ suc m → length (digitsBefore f t n so) ≤ suc m + length so
 unfolding digitsBefore
 long zero m t n so e h = omega arith

@@ -5,7 +5,8 @@ use lib.ListN.{length}
 use borrow.Author.Needs.{needs}
 use borrow.Author.Tests.{not-true, not-false}
 use Rattle.search_rules.specs.Job.{unbroken}
-use Rattle.page.proofs.Laying.{few, within, lays-broken, lays-short, lays-page}
+use Rattle.page.proofs.Laying.{within, lays-broken, lays-short, lays-page}
+use Rattle.page.proofs.Rows.{few}
 use Rattle.page.proofs.lay_out.Statement.{statement}
 use Rattle.page.proofs.lay_out.Tie as tie
 
