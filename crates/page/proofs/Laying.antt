@@ -25,10 +25,12 @@ use Rattle.page.specs.Inner.{ChromaWithin}
 use Rattle.page.proofs.Rows.{page-long}
 
 -- the chroma and its rest
-pub puts-chroma : {a b d : List ℕ} {at m r : ℕ} (c : Float) (n : ℕ) → n ≡ 100 * unitsOf c → PutIn a at (lineOf (row chromaWord (n / 262144))) b m → PutIn b m (lineOf (row restWord (n % 262144))) d r
+pub puts-chroma : {a b d : List ℕ} {at m r : ℕ} (c : Float) (n h t : ℕ) → n ≡ 100 * unitsOf c → PutIn a at (lineOf (row chromaWord h)) b m → h ≡ n / 262144 → PutIn b m (lineOf (row restWord t)) d r → t ≡ n % 262144
     → PutIn a at (linesOf (row chromaWord (hundredths c) ∷ row restWord (remainder c) ∷ [])) d r
 unfolding hundredths remainder
-puts-chroma c n e p q = rw (← e) (puts-two (row chromaWord (n / 262144)) (row restWord (n % 262144)) p q)
+puts-chroma {a} {b} {d} {at} {m} {r} c n h t e p f q g =
+    let both = puts-two (row chromaWord h) (row restWord t) p q in
+    rw (← e) (subst (λ (x : ℕ). PutIn a at (linesOf (row chromaWord (n / 262144) ∷ row restWord x ∷ [])) d r) g (subst (λ (x : ℕ). PutIn a at (linesOf (row chromaWord x ∷ row restWord t ∷ [])) d r) f both))
 
 -- the three parts of a page
 pub puts-found : {a b d e : List ℕ} {i j r : ℕ} (k dark light : ℕ) (c : Float) (hues : List ℕ) → PutIn a 0 (linesOf (row huesWord k ∷ row darkWord dark ∷ row lightWord light ∷ [])) b i

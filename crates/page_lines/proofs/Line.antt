@@ -1,5 +1,5 @@
 -- A line: a number written from the right over the end of a line, the line of a padded word and a number, and that it has 41 bytes, of which the newline is the last (`line-long`). Assumes nothing.
-use mathlib.Core.Path.{_≡_, refl, sym, ap, _∙_}
+use mathlib.Core.Path.{_≡_, refl, sym, ap, _∙_, subst}
 use mathlib.Core.List.{List, [], _∷_, _++_, append-assoc}
 use Prim.Native.Nat.{ℕ, zero, suc, _+_, _-_, _/_, _%_, _^_, _≤_, _<_}
 use native.Mathlib.Omega.{arith}
@@ -151,6 +151,9 @@ line-is field line r n h e f =
     ∙ ap (λ (l : List ℕ). field ++ l) (sym (append-assoc (spaces (30 - g)) (numeral n) (10 ∷ [])))
 
 -- put on a blank line, with the number over its end
-pub line-made : {line r : List ℕ} {m : ℕ} (field : List ℕ) (n : ℕ) → length field ≡ 10 → PutIn blank 0 field line m → r ≡ take (40 - length (numeral n)) line ++ (numeral n ++ drop 40 line)
+pub line-made : {before line r : List ℕ} {m : ℕ} (field : List ℕ) (n : ℕ) → length field ≡ 10 → PutIn before 0 field line m → before ≡ blank
+    → r ≡ take (40 - length (numeral n)) line ++ (numeral n ++ drop 40 line)
     → r ≡ lineWith field n
-line-made {line} {r} field n h p e = line-is field line r n h (puts-over (omega arith) p .holds) e
+line-made {before} {line} {r} {m} field n h p b e =
+    let p' : PutIn blank 0 field line m = subst (λ (l : List ℕ). PutIn l 0 field line m) b p in
+    line-is field line r n h (puts-over (omega arith) p' .holds) e

@@ -6,7 +6,7 @@ use native.Mathlib.Omega.{arith}
 use lib.ListN.{length, length-append}
 use Rattle.text.specs.Put.{PutIn}
 use Rattle.text.proofs.Put.{puts-nothing, puts-both}
-use Rattle.page_lines.specs.Lines.{Row, row, lineOf, linesOf}
+use Rattle.page_lines.specs.Lines.{Row, row, padded, lineWith, lineOf, linesOf}
 use Rattle.page_lines.proofs.Line.{line-long}
 
 -- ---- one after the other
@@ -18,6 +18,10 @@ lines-both (r ∷ rows) more = ap (λ (l : List ℕ). lineOf r ++ l) (lines-both
 lines-one : (r : Row) → linesOf (r ∷ []) ≡ lineOf r
 unfolding linesOf
 lines-one r = append-nil (lineOf r)
+
+-- the line of a word that is padded
+pub puts-word : {a b field : List ℕ} {at m : ℕ} (word : List ℕ) (n : ℕ) → PutIn a at (lineWith field n) b m → field ≡ padded word → PutIn a at (lineOf (row word n)) b m
+puts-word {a} {b} {field} {at} {m} word n p e = subst (λ (l : List ℕ). PutIn a at (lineWith l n) b m) e p
 
 pub puts-row : {a b : List ℕ} {at m : ℕ} (r : Row) → PutIn a at (lineOf r) b m → PutIn a at (linesOf (r ∷ [])) b m
 puts-row {a} {b} {at} {m} r p = subst (λ (l : List ℕ). PutIn a at l b m) (sym (lines-one r)) p

@@ -1,4 +1,5 @@
 -- `page::put_chroma` meets its contract. Assumes nothing.
+use mathlib.Core.Path.{refl}
 use borrow.Author.Needs.{needs}
 use Rattle.page.proofs.Laying.{puts-chroma}
 use Rattle.page.proofs.put_chroma.Statement.{statement}
@@ -20,7 +21,7 @@ returns : tie.Need-returns
 returns c =
     let p = c .before .before in
     let q = p .before .before .before .before in
-    puts-chroma _ _ (q .before .before .hundredfold .ensures) (q .put-row .ensures) (p .put-row2 .ensures)
+    puts-chroma _ _ _ _ (q .before .before .hundredfold .ensures) (q .put-row .ensures) refl (p .put-row2 .ensures) refl
 
 pub put-chroma-spec : {M : Type 1} → statement M
 put-chroma-spec =

@@ -1,7 +1,8 @@
 -- `page::put_none` meets its contract. Assumes nothing.
+use mathlib.Core.Path.{refl}
 use borrow.Author.Needs.{needs}
 use Rattle.page_lines.specs.Lines.{row}
-use Rattle.page_lines.proofs.Rows.{puts-two}
+use Rattle.page_lines.proofs.Rows.{puts-word, puts-two}
 use Rattle.page.specs.Page.{huesWord, noneWord}
 use Rattle.page.proofs.put_none.Statement.{statement}
 use Rattle.page.proofs.put_none.Tie as tie
@@ -19,7 +20,7 @@ returns : tie.Need-returns
 returns c =
     let p = c .before .before in
     let q = p .before .before .before .before in
-    puts-two (row huesWord _) (row noneWord _) (q .put-row .ensures) (p .put-row2 .ensures)
+    puts-two (row huesWord _) (row noneWord _) (q .put-row .ensures) (puts-word noneWord _ (p .put-row2 .ensures) refl)
 
 pub put-none-spec : {M : Type 1} → statement M
 put-none-spec = tie.close (tie.spec put-row-requires put-row-requires-2 same-length returns)

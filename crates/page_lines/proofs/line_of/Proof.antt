@@ -1,4 +1,5 @@
 -- `page_lines::line_of` meets its contract. Assumes nothing.
+use mathlib.Core.Path.{refl}
 use borrow.Author.Needs.{needs}
 use Rattle.page_lines.proofs.Line.{line-made}
 use Rattle.page_lines.proofs.line_of.Statement.{statement}
@@ -22,7 +23,7 @@ numbered-requires c κs = search needs
 returns : tie.Need-returns
 returns c =
     let p = c .before .before in
-    line-made _ _ (search needs) (p .put-bytes .ensures) (c .numbered .ensures)
+    line-made _ _ (search needs) (p .put-bytes .ensures) refl (c .numbered .ensures)
 
 pub line-of-spec : {M : Type 1} → statement M
 line-of-spec =
