@@ -1,6 +1,6 @@
--- What placement means, over every ring length n, k and step that are taken: what is placed is k allowed indices any two of which are at least the step apart both
--- ways round (`sound`); where any k allowed indices are that far apart, in whatever order they are listed, it does not say none (`complete`); and a start from which
--- k - 1 steps reach past the end of the ring need not be tried (`few-starts`). Assumes nothing.
+-- What placement means, over every ring length n, k and step that are taken: what is placed goes round the ring in a chain from a start on it (`went`), and is k allowed
+-- indices any two of which are at least the step apart both ways round (`sound`); where any k allowed indices are that far apart, in whatever order they are listed, it
+-- does not say none (`complete`); and a start from which k - 1 steps reach past the end of the ring need not be tried (`few-starts`). Assumes nothing.
 use mathlib.Core.Path.{_≡_, refl, sym, ap, _∙_, subst}
 use mathlib.Core.Logic.{_⊎_, inl, inr}
 use mathlib.Core.Bool.{Bool, true, false, cond}
@@ -17,7 +17,7 @@ use Rattle.placement_rules.proofs.Chain.{Some, Chain, closes, later, pa
 use Rattle.placement_rules.proofs.Sorted.{All, Pairs, all-of, pairs-of, sorted, sorted-long, sorted-all, Ordered, sorted-pairs, all-map}
 
 -- ---- an index reduced by the length
-reduce : (n x : ℕ) → x < n + n → ((x < n) × (x % n ≡ x)) ⊎ ((n ≤ x) × (x % n ≡ x - n))
+pub reduce : (n x : ℕ) → x < n + n → ((x < n) × (x % n ≡ x)) ⊎ ((n ≤ x) × (x % n ≡ x - n))
 reduce n x u = elim (below-or-not x n) [
   | inl h ↦ inl (h, mod-eq-of-lt h)
   | inr h ↦ inr (h, mod-eq-sub-mod h ∙ mod-eq-of-lt (omega arith))
@@ -32,7 +32,7 @@ apart-reduced n step a b s l u t = go (reduce n a (omega arith)) (reduce n b t)
     go (inr p) (inl q) = let h = p .0 in let k = q .0 in rw (p .1, q .1) (omega arith)
     go (inr p) (inr q) = let h = p .0 in let k = q .0 in rw (p .1, q .1) (omega arith)
 
-apart-sym : (n step i j : ℕ) → Apart n step i j → Apart n step j i
+pub apart-sym : (n step i j : ℕ) → Apart n step i j → Apart n step j i
 apart-sym n step i j h = let e : (j - i) + (i - j) ≡ (i - j) + (j - i) = add-comm (j - i) (i - j) in rw e h
 
 map-long : (f : ℕ → ℕ) (is : List ℕ) → length (map f is) ≡ length is
@@ -99,6 +99,16 @@ module _ (try : ℕ → Places) where
       go nowhere later f h = f h
       go (placed is) later f h = refl
 
+-- indices that go round a ring of n in a chain from a start on it, reduced
+pub record Went (ok : ℕ → Bool) (n k step : ℕ) (js : List ℕ) : Type 0 where
+  pub start : ℕ
+  pub below : start < n
+  pub rest : List ℕ
+  pub allowed : ok start ≡ true
+  pub count : suc (length rest) ≡ k
+  pub chain : Chain ok step (start + n) start rest
+  pub are : map (λ i. i % n) (start ∷ rest) ≡ js
+
 module _ (ok : ℕ → Bool) (n k step : ℕ) (round : (i : ℕ) → ok (i % n) ≡ ok i) (some-hue : 1 ≤ k) (some-step : 1 ≤ step) (within : step ≤ n) where
   abbrev try : ℕ → Places
   try = fromStart ok n k step
@@ -143,7 +153,7 @@ module _ (ok : ℕ → Bool) (n k step : ℕ) (round : (i : ℕ) → ok (i % n) 
         let y = b .1 .0 in
         apart-reduced n step (at p) (at q) some-step (two p q l h) (omega arith) (omega arith)
 
-    spaced : Spaced ok n k step (map (λ i. i % n) (t ∷ is))
+    pub spaced : Spaced ok n k step (map (λ i. i % n) (t ∷ is))
     spaced = record {
       count = ap suc (map-long (λ i. i % n) is) ∙ count;
       within = λ (p : ℕ) (h : p < k). rw (reduced-at p h) (mod-lt (at p) (omega arith));
@@ -157,23 +167,32 @@ module _ (ok : ℕ → Bool) (n k step : ℕ) (round : (i : ℕ) → ok (i % n) 
           | inr l ↦ apart-sym n step (at q % n) (at p % n) (in-order q p (omega arith) h)
         ]
 
+  went-spaced : (js : List ℕ) → Went ok n k step js → Spaced ok n k step js
+  went-spaced js w = subst (Spaced ok n k step) (w .are) (spaced (w .start) (w .below) (w .rest) (w .allowed) (w .count) (w .chain))
+
+  start-went : (s : ℕ) → s < n → (is : List ℕ) → try s ≡ placed is → Went ok n k step (map (λ i. i % n) is)
+  start-went s h is e = go is (subst (From s) e (from-start s))
+    where
+      go : (is : List ℕ) → From s (placed is) → Went ok n k step (map (λ i. i % n) is)
+      go [] f = absurd f
+      go (t ∷ is) f = record { start = s; below = h; rest = is; allowed = f .1 .0; count = f .1 .1 .0; chain = f .1 .1 .1; are = ap (λ (x : ℕ). map (λ i. i % n) (x ∷ is)) (sym (f .0)) }
+
   -- what one start gives, reduced, is such a choice
   start-sound : (s : ℕ) → s < n → (is : List ℕ) → try s ≡ placed is → Spaced ok n k step (map (λ i. i % n) is)
-  start-sound s h is e = go is (subst (From s) e (from-start s))
-    where
-      go : (is : List ℕ) → From s (placed is) → Spaced ok n k step (map (λ i. i % n) is)
-      go [] f = absurd f
-      go (t ∷ is) f = subst (λ (x : ℕ). Spaced ok n k step (map (λ i. i % n) (x ∷ is))) (sym (f .0)) (spaced s h is (f .1 .0) (f .1 .1 .0) (f .1 .1 .1))
+  start-sound s h is e = went-spaced (map (λ i. i % n) is) (start-went s h is e)
 
-  pub sound : (js : List ℕ) → placement ok n k step ≡ placed js → Spaced ok n k step js
+  pub went : (js : List ℕ) → placement ok n k step ≡ placed js → Went ok n k step js
   unfolding placement
-  sound js e = go (firstFrom try n 0) (found try n 0) e
+  went js e = go (firstFrom try n 0) (found try n 0) e
     where
-      go : (p : Places) → Found try n 0 p → reduced n p ≡ placed js → Spaced ok n k step js
+      go : (p : Places) → Found try n 0 p → reduced n p ≡ placed js → Went ok n k step js
       go nowhere f h = absurd (let z : _≡_ {A = ℕ} 0 1 = cc in omega arith)
       go (placed is) f h =
           let same : map (λ i. i % n) is ≡ js = cc in
-          subst (Spaced ok n k step) same (start-sound (f .0) (let u = f .1 .1 .0 in omega arith) is (f .1 .1 .1))
+          subst (Went ok n k step) same (start-went (f .0) (let u = f .1 .1 .0 in omega arith) is (f .1 .1 .1))
+
+  pub sound : (js : List ℕ) → placement ok n k step ≡ placed js → Spaced ok n k step js
+  sound js e = went-spaced js (went js e)
 
   -- ---- complete
   gap : (i j : ℕ) → i ≤ j → Apart n step i j → (i + step ≤ j) × (j + step ≤ i + n)

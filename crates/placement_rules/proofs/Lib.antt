@@ -5,6 +5,7 @@ pub mod Laws
 pub mod Allowed
 pub mod Checking
 pub mod Stored
+pub mod Gaps
 pub mod Step
 pub mod Round
 pub mod Room

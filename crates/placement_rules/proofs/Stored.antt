@@ -1,9 +1,10 @@
 -- The first k of the sixteen hues that are handed out are the k that were placed. Assumes nothing.
-use mathlib.Core.Path.{_≡_, refl, ap, _∙_}
+use mathlib.Core.Path.{_≡_, refl, sym, ap, _∙_}
 use mathlib.Core.List.{List, [], _∷_}
 use Prim.Native.Nat.{ℕ, suc, _≤_}
 use native.Mathlib.Nat.{le-of-suc-le-suc, not-suc-le-zero}
-use lib.ListN.{length, take, set}
+use native.Mathlib.Omega.{arith}
+use lib.ListN.{length, take, set, replicate}
 use Rattle.placement_rules.specs.Placing.{stores}
 
 -- what is stored one place further on leaves the first as it is
@@ -21,3 +22,7 @@ unfolding stores
 first-stored hues [] h = refl
 first-stored [] (i ∷ is) h = absurd (not-suc-le-zero h)
 first-stored (x ∷ xs) (i ∷ is) h = ap (take (suc (length is))) (stored-next x xs i is) ∙ ap (λ (r : List ℕ). i ∷ r) (first-stored xs is (le-of-suc-le-suc h))
+
+-- and so the first k of sixteen into which k were stored
+pub first-of : (k : ℕ) (is hues : List ℕ) → stores (replicate 16 0) 0 is ≡ hues → length is ≡ k → k ≤ 16 → take k hues ≡ is
+first-of k is hues e c few = ap (take k) (sym e) ∙ ap (λ (i : ℕ). take i (stores (replicate 16 0) 0 is)) (sym c) ∙ first-stored (replicate 16 0) is (omega arith)

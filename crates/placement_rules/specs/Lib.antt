@@ -1,3 +1,4 @@
 pub mod Ring
 pub mod Spacing
+pub mod Gaps
 pub mod Placing

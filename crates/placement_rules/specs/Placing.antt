@@ -4,7 +4,7 @@ use mathlib.Core.Bool.{Bool, true, false, _&&_, cond}
 use mathlib.Core.List.{List, [], _∷_}
 use lib.Dec.{leb}
 use lib.Ieee.{Float, nan, le}
-use lib.ListN.{length, getD, set, replicate}
+use lib.ListN.{length, getD, set, take, replicate}
 use Rattle.limits.specs.Answers.{Said, value, refused}
 use Rattle.limits.specs.Refusals.{number}
 use Rattle.limits.specs.Taken.{hueCountTaken, chromaTaken, entryTaken, every}
@@ -13,6 +13,7 @@ use Rattle.placement_rules.specs.declared.Answer.the-variants.{Placed, N
 use Rattle.placement_rules.specs.declared.Stepping.{Stepping}
 use Rattle.placement_rules.specs.declared.Stepping.the-variants.{Is, Declined}
 use Rattle.placement_rules.specs.Ring.{Places, nowhere, placed, placement}
+use Rattle.placement_rules.specs.Gaps.{tightest}
 
 -- "Index i is allowed at chroma c when its entry is ≥ c.", i reduced by the length
 unfoldable pub allowedAt : List Float → Float → ℕ → Bool
@@ -60,6 +61,12 @@ abbrev pub huesBeside : Said Places → List ℕ
 huesBeside (value nowhere) = replicate 16 0
 huesBeside (value (placed is)) = is
 huesBeside (refused n) = replicate 16 0
+
+-- Req 07: the smallest gap of the k hues placed, on a ring of n; 0 where it is none or a refusal
+abbrev pub tightestBeside : ℕ → ℕ → Said Places → ℕ
+tightestBeside n k (value nowhere) = 0
+tightestBeside n k (value (placed is)) = tightest n (take k is)
+tightestBeside n k (refused w) = 0
 
 -- what an answer hands back, with the hues that stand beside it
 abbrev pub answers : Answer → List ℕ → Said Places
