@@ -10,6 +10,7 @@ mod chroma; // max_chroma and l_of, taken from the published file by compare/bui
 mod color; // the published file, patched by compare/build
 mod deriving; // derive and back_off, taken from the published file by compare/build
 mod findings;
+mod gaps;
 mod layout;
 mod level_sets;
 mod orientations;
@@ -38,6 +39,8 @@ const BEFORE: u16 = 4711;
 const BEFORE_CHROMA: f32 = 47.11;
 /// What each level index is before a search or a best with one hue fixed.
 const BEFORE_LEVEL: usize = 471_147;
+/// What the tightest gap is before a placement, a pair or a search.
+const BEFORE_GAP: usize = 47_114_711;
 /// What our archive gives where there is no placement, or no chroma is found.
 const NONE: u32 = 255;
 /// The floor of each pair.
@@ -58,7 +61,7 @@ unsafe extern "C" {
         row: *mut f32,
         entries: usize,
     ) -> u32;
-    /// The same, with sixteen hues to write.
+    /// The same, with sixteen hues and their tightest gap to write.
     fn tengcuvo_place(
         m: *const f32,
         entries: usize,
@@ -68,6 +71,7 @@ unsafe extern "C" {
         work: *mut u16,
         room: usize,
         hues: *mut [u16; 16],
+        tightest: *mut [usize; 1],
     ) -> u32;
     /// The same, with a chroma to write too.
     fn tengcuvo_best(
@@ -81,6 +85,7 @@ unsafe extern "C" {
         work: *mut u16,
         room: usize,
         hues: *mut [u16; 16],
+        tightest: *mut [usize; 1],
         chroma: *mut [f32; 1],
     ) -> u32;
     /// The same over a whole table, with two level indices to write too.
@@ -92,6 +97,7 @@ unsafe extern "C" {
         work: *mut u16,
         room: usize,
         hues: *mut [u16; 16],
+        tightest: *mut [usize; 1],
         levels: *mut [usize; 2],
         chroma: *mut [f32; 1],
     ) -> u32;
@@ -256,9 +262,13 @@ fn questions(rings: &[Vec<f32>]) -> Vec<Asked> {
     asked
 }
 
-/// Makes a placement by our archive, and gives its number with the hues.
-fn place(m: &[f32], asked: &Asked, work: &mut [u16]) -> (u32, [u16; 16]) {
+/// What a placement gives: the number, the hues, and their tightest gap.
+type Placed = (u32, [u16; 16], usize);
+
+/// Makes a placement by our archive.
+fn place(m: &[f32], asked: &Asked, work: &mut [u16]) -> Placed {
     let mut hues = [BEFORE; 16];
+    let mut gap = [BEFORE_GAP];
     let (address, room) = (work.as_mut_ptr(), work.len());
     // What is lent lives through the call, and nothing of it is lent twice.
     let number = unsafe {
@@ -271,12 +281,13 @@ fn place(m: &[f32], asked: &Asked, work: &mut [u16]) -> (u32, [u16; 16]) {
             address,
             room,
             &mut hues,
+            &mut gap,
         )
     };
-    (number, hues)
+    (number, hues, gap[0])
 }
 
-/// Checks that our archive refuses what it must, with hues and work buffer then as before.
+/// Checks that our archive refuses what it must, with hues, gap and work buffer then as before.
 fn placement_refusals() {
     let ring = [40.0; 8];
     for (number, length, k, step, c, room) in [
@@ -296,7 +307,8 @@ fn placement_refusals() {
         };
         let mut work = vec![BEFORE; room];
         let given = place(&ring[..length], &asked, &mut work);
-        assert!(given == (number, [BEFORE; 16]), "not refused by {number}");
+        let expected = (number, [BEFORE; 16], BEFORE_GAP);
+        assert!(given == expected, "not refused by {number}");
         assert!(
             work.iter().all(|v| *v == BEFORE),
             "a refused buffer is changed"
@@ -326,16 +338,17 @@ fn placements(table: &[f32]) {
         ],
     );
     let placed = other.iter().flatten().count();
-    for ((number, hues), theirs) in one.iter().zip(&other) {
-        let mut expected = (NONE, [0; 16]);
+    for (ours, theirs) in one.iter().zip(&other) {
+        let mut expected = (NONE, [0; 16], 0);
         if let Some(theirs) = theirs {
             expected.0 = 0;
+            expected.2 = gaps::tightest(theirs, DIRECTIONS);
             theirs
                 .iter()
                 .zip(&mut expected.1)
                 .for_each(|(h, to)| *to = *h as u16);
         }
-        assert!((*number, *hues) == expected, "a placement differs");
+        assert!(*ours == expected, "a placement differs");
     }
     println!("all placements are equal, {placed} of them with hues");
 }
@@ -369,9 +382,10 @@ fn pairs() -> Vec<Pair> {
 /// What a pair or a set of levels gives: the number, the hues, and the bits of the chroma.
 type Best = (u32, [u16; 16], u32);
 
-/// Searches a pair of rows by our archive.
-fn best(a: &[f32], b: &[f32], pair: &Pair, work: &mut [u16]) -> Best {
+/// Searches a pair of rows by our archive, and gives the tightest gap beside the best.
+fn best(a: &[f32], b: &[f32], pair: &Pair, work: &mut [u16]) -> (Best, usize) {
     let mut hues = [BEFORE; 16];
+    let mut gap = [BEFORE_GAP];
     let mut chroma = [BEFORE_CHROMA];
     let (address, room) = (work.as_mut_ptr(), work.len());
     // What is lent lives through the call, and nothing that is written is lent twice.
@@ -387,10 +401,11 @@ fn best(a: &[f32], b: &[f32], pair: &Pair, work: &mut [u16]) -> Best {
             address,
             room,
             &mut hues,
+            &mut gap,
             &mut chroma,
         )
     };
-    (number, hues, chroma[0].to_bits())
+    ((number, hues, chroma[0].to_bits()), gap[0])
 }
 
 /// Checks that our archive refuses what it must, with all that it is lent then as before.
@@ -416,7 +431,7 @@ fn pair_refusals() {
         let mut work = vec![BEFORE; room];
         let given = best(a, b, &pair, &mut work);
         let expected = (number, [BEFORE; 16], BEFORE_CHROMA.to_bits());
-        assert!(given == expected, "not refused by {number}");
+        assert!(given == (expected, BEFORE_GAP), "not refused by {number}");
         assert!(
             work.iter().all(|v| *v == BEFORE),
             "a refused buffer is changed"
@@ -462,7 +477,9 @@ fn bests(table: &[f32]) {
     );
     let found = other.iter().flatten().count();
     for (ours, theirs) in one.iter().zip(&other) {
-        assert!(*ours == expected(theirs), "a pair differs");
+        let hues = theirs.as_ref().map_or(&[][..], |(_, hues)| hues);
+        let gap = gaps::tightest(hues, DIRECTIONS);
+        assert!(*ours == (expected(theirs), gap), "a pair differs");
     }
     println!("all pairs are equal bit for bit, {found} of them with a chroma");
 }
@@ -471,9 +488,10 @@ fn bests(table: &[f32]) {
 /// the bits of the chroma.
 type Searched = (u32, [u16; 16], [usize; 2], u32);
 
-/// Searches a table by our archive.
-fn search(table: &[f32], k: usize, gap: f32, work: &mut [u16]) -> Searched {
+/// Searches a table by our archive, and gives the tightest gap beside what is found.
+fn search(table: &[f32], k: usize, gap: f32, work: &mut [u16]) -> (Searched, usize) {
     let mut hues = [BEFORE; 16];
+    let mut tightest = [BEFORE_GAP];
     let mut levels = [BEFORE_LEVEL; 2];
     let mut chroma = [BEFORE_CHROMA];
     let (address, room) = (work.as_mut_ptr(), work.len());
@@ -487,11 +505,12 @@ fn search(table: &[f32], k: usize, gap: f32, work: &mut [u16]) -> Searched {
             address,
             room,
             &mut hues,
+            &mut tightest,
             &mut levels,
             &mut chroma,
         )
     };
-    (number, hues, levels, chroma[0].to_bits())
+    ((number, hues, levels, chroma[0].to_bits()), tightest[0])
 }
 
 /// Checks that our archive refuses what it must, with all that it is lent then as before.
@@ -513,7 +532,7 @@ fn search_refusals() {
         let given = search(table, k, gap, &mut work);
         let bits = BEFORE_CHROMA.to_bits();
         let expected = (number, [BEFORE; 16], [BEFORE_LEVEL; 2], bits);
-        assert!(given == expected, "not refused by {number}");
+        assert!(given == (expected, BEFORE_GAP), "not refused by {number}");
         assert!(
             work.iter().all(|v| *v == BEFORE),
             "a refused buffer is changed"
@@ -550,7 +569,11 @@ fn searched(table: &[f32], gamut: &pairing::Gamut, k: usize) -> [Vec<f64>; 2] {
         ],
     );
     let found = other.is_some();
-    assert!(one == Some(expected_search(other)), "a search differs");
+    let expected = expected_search(other);
+    let hues: Vec<usize> = expected.1[..k].iter().map(|hue| (*hue).into()).collect();
+    let hues = if found { &hues[..] } else { &[] };
+    let gap = gaps::tightest(hues, DIRECTIONS);
+    assert!(one == Some((expected, gap)), "a search differs");
     let kind = if found { "found" } else { "none" };
     report(&format!("the whole search for k = {k} ({kind})"), &times);
     times

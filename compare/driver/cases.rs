@@ -68,7 +68,8 @@ fn answer(operation: &str, input: &[u32], cos: &[f32], sin: &[f32]) -> Vec<u32> 
 }
 
 /// What the lists of placements, pairs and searches put beside the published file.
-pub const REFUSALS: &str = "the refusals of documents 01 and 02";
+pub const BESIDE: &str =
+    "the refusals of documents 01 and 02 and the tightest gap worked out from the hues";
 
 /// Writes the first lines of a list of cases of this kind, made by this command.
 pub fn title(out: &mut dyn Write, kind: &str, command: &str) -> io::Result<()> {

@@ -105,7 +105,7 @@ fn kept_positions(list: &mut Searches) -> io::Result<()> {
                     ..KEPT
                 };
                 if left % 2 == 1 {
-                    (job.best, job.hues) = (None, [0; 16]);
+                    (job.best, job.hues, job.tightest) = (None, [0; 16], 0);
                 }
                 list.lend(job)?;
                 list.step_in(&[SHORT, ROOM])?;

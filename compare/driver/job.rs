@@ -4,6 +4,7 @@
 
 use crate::cases::{line, word};
 use crate::chroma::l_of;
+use crate::gaps::tightest;
 use crate::pairing;
 use crate::placement::takes;
 use crate::placing;
@@ -26,7 +27,8 @@ pub const LEAST_GAP: f32 = 40.0;
 /// How long a work buffer must be: one lap.
 pub const ROOM: usize = DIRECTIONS;
 
-/// A job record; the best is a chroma with the dark and the light level index.
+/// A job record; the best is a chroma with the dark and the light level index, and beside the hues
+/// stands their tightest gap.
 #[derive(Clone, Copy)]
 pub struct Job {
     pub k: u32,
@@ -35,6 +37,7 @@ pub struct Job {
     pub position: u32,
     pub best: Option<(f32, u32, u32)>,
     pub hues: [u16; 16],
+    pub tightest: u32,
 }
 
 /// The record of a list in which no line has set one.
@@ -45,6 +48,7 @@ pub const BLANK: Job = Job {
     position: 0,
     best: None,
     hues: [0; 16],
+    tightest: 0,
 };
 
 /// Whether a record may have this gap, and a best with one hue fixed be asked for with it.
@@ -64,45 +68,65 @@ pub fn sixteen(given: impl Iterator<Item = usize>) -> [u16; 16] {
     hues
 }
 
+/// The tightest gap round the circle of the first k of these hues.
+fn tightest_of(hues: &[u16; 16], k: u32) -> u32 {
+    let hues: Vec<usize> = hues[..k as usize].iter().map(|hue| (*hue).into()).collect();
+    tightest(&hues, DIRECTIONS) as u32
+}
+
 impl Job {
-    /// The words of a record: hue count, gap, levels, position, whether there is a best, its
-    /// chroma and its two level indices, and the hues.
-    pub fn words(&self) -> [u32; 24] {
-        let mut words = [0; 24];
+    /// The words of a record: hue count, gap, levels, position, tightest gap, whether there is a best,
+    /// its chroma and its two level indices, and the hues.
+    pub fn words(&self) -> [u32; 25] {
+        let mut words = [0; 25];
         words[..4].copy_from_slice(&[self.k, word(self.gap), self.levels, self.position]);
+        words[4] = self.tightest;
         if let Some((chroma, dark, light)) = self.best {
-            words[4..8].copy_from_slice(&[1, word(chroma), dark, light]);
+            words[5..9].copy_from_slice(&[1, word(chroma), dark, light]);
         }
-        for (hue, to) in self.hues.iter().zip(&mut words[8..]) {
+        for (hue, to) in self.hues.iter().zip(&mut words[9..]) {
             *to = u32::from(*hue);
         }
         words
     }
 
-    /// Writes the lines of a list that set this record.
+    /// Writes the lines of a list that set this record; where there is a best, the tightest gap
+    /// stands beside it, and the first line has 0.
     pub fn write(&self, out: &mut dyn Write) -> io::Result<()> {
         let words = self.words();
-        let hues = words[8..].iter().rposition(|hue| *hue != 0);
-        let shown = [&words[..4], &words[8..8 + hues.map_or(0, |last| last + 1)]].concat();
-        line(out, "job", &shown)?;
-        if self.best.is_some() {
-            line(out, "best", &words[5..8])?;
+        let hues = words[9..].iter().rposition(|hue| *hue != 0);
+        let mut shown = [&words[..5], &words[9..9 + hues.map_or(0, |last| last + 1)]].concat();
+        if self.best.is_none() {
+            return line(out, "job", &shown);
         }
-        Ok(())
+        shown[4] = 0;
+        line(out, "job", &shown)?;
+        line(out, "best", &[&words[6..9], &words[4..5]].concat())
     }
 
     /// The bytes of a record in a digest: hue count, gap, levels and position, whether there is
-    /// a best and if so its chroma and its two level indices, and the hues.
+    /// a best and if so its chroma and its two level indices, the hues, and the tightest gap.
     pub fn bytes(&self) -> Vec<u8> {
         let words = self.words();
         let of = |words: &[u32]| words.iter().flat_map(|word| word.to_le_bytes()).collect();
         let mut bytes: Vec<u8> = of(&words[..4]);
         bytes.push(u8::from(self.best.is_some()));
         if self.best.is_some() {
-            bytes.extend::<Vec<u8>>(of(&words[5..8]));
+            bytes.extend::<Vec<u8>>(of(&words[6..9]));
         }
         bytes.extend(self.hues.iter().flat_map(|hue| hue.to_le_bytes()));
+        bytes.extend(self.tightest.to_le_bytes());
         bytes
+    }
+
+    /// The same record with the tightest gap that its hues have, where it has a best, and else 0. Hues
+    /// that are made up may be equal, and 0 would break the record: then it is 1.
+    pub fn filled_in(self) -> Job {
+        let tightest = match self.best {
+            Some(_) => tightest_of(&self.hues, self.k).max(1),
+            None => 0,
+        };
+        Job { tightest, ..self }
     }
 
     /// How many pairs there are to go through.
@@ -114,6 +138,7 @@ impl Job {
     pub fn is_whole(&self) -> bool {
         let shown = self.best.map_or(0, |_| self.k as usize);
         let held = |(i, hue): (usize, &u16)| *hue <= if i < shown { 719 } else { 0 };
+        let gaps = self.best.map_or(0..=0, |_| 1..=DIRECTIONS as u32);
         let below = |level: u32| level < self.levels;
         (1..=16).contains(&self.k)
             && takes_gap(self.gap)
@@ -123,6 +148,7 @@ impl Job {
                 (FLOOR..=200.0).contains(&chroma) && below(dark) && below(light)
             })
             && self.hues.iter().enumerate().all(held)
+            && gaps.contains(&self.tightest)
     }
 
     /// Whether this is a record that no start gives, but that document 01's gave or led to.
@@ -190,6 +216,7 @@ fn started(k: u32, gap: f32, gap_taken: bool, table: &[f32]) -> Result<Job, u32>
         position: 0,
         best: None,
         hues: [0; 16],
+        tightest: 0,
     })
 }
 
@@ -242,6 +269,7 @@ pub fn step(table: &[f32], room: usize, job: Job) -> Result<Job, u32> {
     {
         let [dark, light] = job.next_pair();
         next.best = Some((chroma, dark, light));
+        next.tightest = tightest(&hues, DIRECTIONS) as u32;
         next.hues = sixteen(hues.into_iter());
     }
     Ok(next)
@@ -274,6 +302,7 @@ pub fn ended(begun: Job, table: &[f32]) -> Job {
         job.best = Some((chroma, dark, light));
         // Hues lie half a degree apart, which is exact.
         job.hues = sixteen(hues.into_iter().map(|hue| (hue * 2.0) as usize));
+        job.tightest = tightest_of(&job.hues, job.k);
     }
     job
 }

@@ -2,6 +2,7 @@
 //! cases.
 
 use crate::cases::{line, word, wrong, Tally};
+use crate::gaps::tightest;
 use crate::job::{whole_rows, BAD_ENTRY, BAD_HUE_COUNT, BAD_TABLE, BAD_WORK, ROOM};
 use crate::lists::step as float_step;
 use crate::pairing;
@@ -112,15 +113,17 @@ fn hold(m: &[f32], k: usize, best: &Option<Best>) {
     assert!(more.is_none(), "a common value lies far above");
 }
 
-/// The words for an answer: its number, then the chroma and the hues where there are some.
+/// The words for an answer: its number and the tightest gap, 0 where there are no hues, then the chroma
+/// and the hues where there are some.
 fn said(answer: &Answer) -> Vec<u32> {
     match answer {
         Ok(Some((chroma, hues))) => {
+            let gap = tightest(hues, DIRECTIONS) as u32;
             let hues = hues.iter().map(|hue| *hue as u32);
-            [0, word(*chroma)].into_iter().chain(hues).collect()
+            [0, gap, word(*chroma)].into_iter().chain(hues).collect()
         }
-        Ok(None) => vec![0],
-        Err(number) => vec![*number],
+        Ok(None) => vec![0; 2],
+        Err(number) => vec![*number, 0],
     }
 }
 
@@ -218,7 +221,7 @@ impl<'a, 'b> LevelSets<'a, 'b> {
     /// Writes a call that must be refused by this number.
     pub fn must_refuse(&mut self, asked: Asked, number: u32) -> io::Result<()> {
         let given = self.set_in(asked)?;
-        assert!(given == [number], "not what is worked out by hand");
+        assert!(given == [number, 0], "not what is worked out by hand");
         Ok(())
     }
 

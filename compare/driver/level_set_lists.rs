@@ -104,23 +104,23 @@ fn in_orders(list: &mut LevelSets, levels: &[u32], k: u32) -> io::Result<()> {
 /// Writes calls whose answers follow from the rule without working out a table.
 fn by_hand(list: &mut LevelSets) -> io::Result<()> {
     list.tables.set(&flat(1, 0.0))?;
-    list.must(1, &[18])?;
+    list.must(1, &[18, 0])?;
     list.name(&[0])?;
-    list.must(1, &[0])?;
+    list.must(1, &[0, 0])?;
     list.tables.more(333, &[50.0])?;
-    list.must(2, &[0, 0, 0, 301])?;
+    list.must(2, &[0, 301, 0, 0, 301])?;
     list.tables.more(333, &[f32::from_bits(1)])?;
-    list.must(1, &[0, 0, 0])?;
+    list.must(1, &[0, 720, 0, 0])?;
     // Thirty halvings of 200 end above 2^-24 and below 2^-20.
     for (power, bits) in [(-20, 0x357a_0000), (-24, 0)] {
         list.tables.set(&flat(1, 2f32.powi(power)))?;
         list.tables.more(333, &[200.0])?;
-        list.must(2, &[0, bits, 0, 301])?;
+        list.must(2, &[0, 301, bits, 0, 301])?;
     }
     list.tables.set(&flat(1, f32::from_bits(0x4300_0001)))?;
-    list.must(1, &[0, 0x4300_0000, 0])?;
+    list.must(1, &[0, 720, 0x4300_0000, 0])?;
     list.name(&[0; 9])?;
-    list.must(1, &[18])?;
+    list.must(1, &[18, 0])?;
     by_hand_halves(list)?;
     random_table(list.tables, &mut Random(38), 1, 3)?;
     let lists = [vec![0, 1, 2], vec![2, 1, 0, 0, 1, 1, 2, 2]];
@@ -137,41 +137,41 @@ fn by_hand_halves(list: &mut LevelSets) -> io::Result<()> {
     list.tables.same(0, 360, 50.0)?;
     list.tables.same(DIRECTIONS + 360, 360, 60.0)?;
     for (levels, expected) in [
-        (&[0][..], &[0, word(50.0), 0][..]),
-        (&[1], &[0, word(60.0), 360]),
-        (&[0, 1], &[0]),
+        (&[0][..], &[0, 720, word(50.0), 0][..]),
+        (&[1], &[0, 720, word(60.0), 360]),
+        (&[0, 1], &[0, 0]),
     ] {
         list.name(levels)?;
         list.must(1, expected)?;
     }
-    list.must(16, &[0])?;
+    list.must(16, &[0, 0])?;
     list.tables.more(DIRECTIONS + 359, &[70.0])?;
-    list.must(1, &[0, word(50.0), 359])?;
-    list.must(2, &[0, 0, 0, 301])
+    list.must(1, &[0, 720, word(50.0), 359])?;
+    list.must(2, &[0, 301, 0, 0, 301])
 }
 
 /// Writes calls with a fault or two, of which the one that is looked for first is given.
 fn by_hand_refused(list: &mut LevelSets) -> io::Result<()> {
     list.tables.set(&rows_of(&[50.0, f32::NAN]))?;
     for (levels, expected) in [
-        (&[0][..], &[0, word(50.0), 0][..]),
-        (&[1], &[7]),
-        (&[0, 0, 0, 0, 0, 0, 0, 1], &[7]),
-        (&[2], &[11]),
-        (&[1, 2], &[11]),
+        (&[0][..], &[0, 720, word(50.0), 0][..]),
+        (&[1], &[7, 0]),
+        (&[0, 0, 0, 0, 0, 0, 0, 1], &[7, 0]),
+        (&[2], &[11, 0]),
+        (&[1, 2], &[11, 0]),
     ] {
         list.name(levels)?;
         list.must(1, expected)?;
     }
     list.name(&[])?;
     list.must_refuse((1, SHORT), 8)?;
-    list.must(1, &[18])?;
+    list.must(1, &[18, 0])?;
     list.name(&[0, 0, 0, 0, 200, 0, 0, 0, 0])?;
-    list.must(1, &[18])?;
+    list.must(1, &[18, 0])?;
     list.tables.set(&flat(3, 50.0))?;
     list.tables.more(0, &[f32::NAN])?;
     list.name(&[0, 3])?;
-    list.must(1, &[11])?;
+    list.must(1, &[11, 0])?;
     list.tables.resize(3 * DIRECTIONS + 1)?;
     list.must_refuse((1, SHORT), 6)?;
     list.must_refuse((17, SHORT), 1)
@@ -386,7 +386,7 @@ fn tight(list: &mut LevelSets) -> io::Result<()> {
 fn whole_panel(list: &mut LevelSets) -> io::Result<()> {
     list.tables.panel(0, LEVELS)?;
     list.name(&FOUR)?;
-    list.must(4, &[0, word(28.247828), 150, 301, 568, 719])?;
+    list.must(4, &[0, 151, word(28.247828), 150, 301, 568, 719])?;
     for k in 1..=16 {
         list.set(k)?;
     }

@@ -12,6 +12,7 @@ mod findings;
 mod gamut;
 mod gamut_lists;
 mod gap_lists;
+mod gaps;
 mod job;
 mod layout;
 mod level_set;

@@ -13,6 +13,8 @@ pub const BAD_BUFFER: u32 = 19;
 pub const STORED: usize = 1024;
 /// How many bytes a line of a page has, its newline among them.
 pub const LINE: usize = 41;
+/// More fills than any list has, but for those of the cases that stand aside.
+const ASIDE: u32 = 1 << 31;
 
 /// How many bytes the page of a job has; more than sixteen hues, which break it, count as sixteen.
 pub fn length(job: &Job) -> usize {
@@ -106,6 +108,15 @@ impl Pages<'_> {
     fn fill(&mut self) -> u32 {
         self.fills += 1;
         self.fills.wrapping_mul(0x9e37_79b1)
+    }
+
+    /// Writes cases whose fills are none of the others', so that the cases after them have the same
+    /// fills as without them.
+    pub fn aside(&mut self, cases: fn(&mut Self) -> io::Result<()>) -> io::Result<()> {
+        let fills = std::mem::replace(&mut self.fills, ASIDE);
+        cases(self)?;
+        self.fills = fills;
+        Ok(())
     }
 
     /// Counts an answer with a buffer of this size.

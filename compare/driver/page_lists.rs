@@ -44,6 +44,7 @@ pub fn fixed(out: &mut dyn Write) -> io::Result<()> {
     positions(&mut list)?;
     gaps(&mut list)?;
     broken(&mut list)?;
+    list.aside(tightest_gaps)?;
     wrong_lists::pages(&mut list)?;
     list.end()
 }
@@ -65,14 +66,16 @@ pub fn many(out: &mut dyn Write, seed: u64, count: usize) -> io::Result<()> {
 
 /// A finished job with this hue count, whose hues pass 719 on their way.
 pub fn finished(k: u32) -> Job {
-    Job {
+    let job = Job {
         k,
         gap: LEAST_GAP,
         levels: LEVELS as u32,
         position: (LEVELS * LEVELS) as u32,
         best: Some((60.7, 49, 131)),
         hues: sixteen((0..k as usize).map(|i| (653 + 45 * i) % DIRECTIONS)),
-    }
+        tightest: 0,
+    };
+    job.filled_in()
 }
 
 /// The same job with none so far.
@@ -80,6 +83,7 @@ pub fn with_none(job: Job) -> Job {
     Job {
         best: None,
         hues: [0; 16],
+        tightest: 0,
         ..job
     }
 }
@@ -149,10 +153,13 @@ hue                                  608
 /// Writes pages that must be as they are written out by hand, of finished jobs and of kept ones that
 /// are not finished.
 fn by_hand(list: &mut Pages) -> io::Result<()> {
-    let of = |best: (f32, u32, u32), hues: &[usize]| Job {
-        best: Some(best),
-        hues: sixteen(hues.iter().copied()),
-        ..finished(hues.len() as u32)
+    let of = |best: (f32, u32, u32), hues: &[usize]| {
+        let job = Job {
+            best: Some(best),
+            hues: sixteen(hues.iter().copied()),
+            ..finished(hues.len() as u32)
+        };
+        job.filled_in()
     };
     let kept = |job: Job| Job {
         gap: 12.5,
@@ -273,7 +280,7 @@ fn hues(list: &mut Pages) -> io::Result<()> {
     for hues in each {
         let job = finished(hues.len() as u32);
         let hues = sixteen(hues.into_iter());
-        spare(list, Job { hues, ..job })?;
+        spare(list, Job { hues, ..job }.filled_in())?;
     }
     Ok(())
 }
@@ -341,6 +348,25 @@ fn broken(list: &mut Pages) -> io::Result<()> {
     Ok(())
 }
 
+/// Writes pages of records by their tightest gap: beyond the ends of its range, which are broken, as are
+/// all but 0 with none so far, and at its ends, which are laid out as with any other in it.
+fn tightest_gaps(list: &mut Pages) -> io::Result<()> {
+    let job = finished(3);
+    let with = |job: Job, tightest: u32| Job { tightest, ..job };
+    for job in [with(job, 0), with(job, 721), with(with_none(job), 5)] {
+        lend_broken(list, job)?;
+        for size in ALL_SIZES {
+            list.page(size)?;
+        }
+    }
+    for tightest in [1, 720] {
+        spare(list, with(job, tightest))?;
+        list.page(length(&job))?;
+        list.page(length(&job) - 1)?;
+    }
+    Ok(())
+}
+
 /// A random chroma from 35 to 200: at or near one with a rule of its own, at or near a whole number
 /// of hundredths, or any.
 fn random_chroma(random: &mut Random) -> f32 {
@@ -394,14 +420,16 @@ fn random_found(random: &mut Random) -> Job {
     let hues: Vec<usize> = (0..k)
         .map(|_| random_below(random, DIRECTIONS as u32) as usize)
         .collect();
-    Job {
+    let job = Job {
         k,
         gap: random_gap(random),
         levels,
         position: random.pick(&[0, between, between, pairs]),
         best: Some(best),
         hues: sixteen(hues.into_iter()),
-    }
+        tightest: 0,
+    };
+    job.filled_in()
 }
 
 /// A random job with one field of any bits, which may still be in its range.

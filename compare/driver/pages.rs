@@ -1,6 +1,7 @@
 //! The pages that bench.rs times, of jobs with sixteen hues. The published Rust has no page: its side
 //! writes the same lines with Rust's own formatting into a fixed buffer.
 
+use crate::gaps::tightest;
 use crate::layout::write_page;
 use crate::random::Random;
 use crate::standins::{DIRECTIONS, LEVELS};
@@ -28,6 +29,7 @@ unsafe extern "C" {
         dark: usize,
         light: usize,
         hues: *const [u16; 16],
+        tightest: usize,
         page: *mut u8,
         bytes: usize,
         written: *mut [usize; 1],
@@ -43,9 +45,11 @@ struct Job {
     position: usize,
     best: Option<(f32, u32, u32)>,
     hues: [u16; 16],
+    tightest: usize,
 }
 
-/// A finished job with sixteen hues, and one with none so far.
+/// A finished job with sixteen hues, and one with none so far. Hues that are all one have no tightest gap
+/// that a job may have: it is 1.
 const FOUND: Job = Job {
     k: 16,
     gap: GAP,
@@ -53,10 +57,12 @@ const FOUND: Job = Job {
     position: LEVELS * LEVELS,
     best: Some((60.7, 49, 131)),
     hues: [719; 16],
+    tightest: 1,
 };
 const NOTHING: Job = Job {
     best: None,
     hues: [0; 16],
+    tightest: 0,
     ..FOUND
 };
 
@@ -80,6 +86,7 @@ fn ours(job: &Job, page: &mut [u8]) -> Laid {
             dark as usize,
             light as usize,
             &job.hues,
+            job.tightest,
             address,
             bytes,
             &mut written,
@@ -107,6 +114,7 @@ pub fn refusals() {
     let of = |k: usize| Job { k, ..FOUND };
     let apart = |gap: f32| Job { gap, ..FOUND };
     let over = |levels: usize| Job { levels, ..FOUND };
+    let tight = |job: Job, tightest: usize| Job { tightest, ..job };
     let (best, hues) = (None, [720; 16]);
     for (number, job, size) in [
         (15, of(0), BYTES),
@@ -125,6 +133,10 @@ pub fn refusals() {
         (15, Job { hues, ..FOUND }, BYTES),
         (15, of(15), BYTES),
         (15, Job { best, ..FOUND }, 0),
+        (15, tight(FOUND, 0), BYTES),
+        (15, tight(FOUND, DIRECTIONS + 1), BYTES),
+        (15, tight(FOUND, (1 << 32) + 1), 0),
+        (15, tight(NOTHING, 1), BYTES),
         (19, FOUND, BYTES - 1),
         (19, FOUND, 82),
         (19, FOUND, 0),
@@ -150,6 +162,7 @@ fn jobs(k: usize) -> Vec<Job> {
         let [dark, light] = [(); 2].map(|()| random.below(levels) as u32);
         let mut hues = [0; 16];
         hues[..k].fill_with(|| random.below(DIRECTIONS) as u16);
+        let given: Vec<usize> = hues[..k].iter().map(|hue| (*hue).into()).collect();
         Job {
             k,
             gap: random.between(0.0, 84.0),
@@ -157,6 +170,8 @@ fn jobs(k: usize) -> Vec<Job> {
             position: random.below(levels * levels + 1),
             best: Some((chroma, dark, light)),
             hues,
+            // Two of them may be the same.
+            tightest: tightest(&given, DIRECTIONS).max(1),
         }
     };
     (0..JOBS).map(job).collect()

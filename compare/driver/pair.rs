@@ -1,6 +1,7 @@
 //! The lines of a list of pair cases: two rows, and the best over them.
 
-use crate::cases::{head, line, word, wrong, REFUSALS};
+use crate::cases::{head, line, word, wrong, BESIDE};
+use crate::gaps::tightest;
 use crate::pairing;
 use crate::placement::{refusal, Call, STORED};
 use crate::placing;
@@ -30,16 +31,16 @@ fn answer(rows: [&[f32]; 2], call: Call) -> Answer {
     }
 }
 
-/// The words of a pair with this answer.
-fn words_of(call: Call, answer: &Answer) -> Vec<u32> {
+/// The words of a pair over rows of n entries with this answer.
+fn words_of(call: Call, answer: &Answer, n: usize) -> Vec<u32> {
     let mut words = vec![call.k, call.step, word(call.c), call.room as u32];
     match answer {
         Answer::Found(chroma, hues) => {
-            words.extend([0, word(*chroma)]);
+            words.extend([0, tightest(hues, n) as u32, word(*chroma)]);
             words.extend(hues.iter().map(|hue| *hue as u32));
         }
-        Answer::Nothing => words.push(0),
-        Answer::Refused(number) => words.push(*number),
+        Answer::Nothing => words.extend([0; 2]),
+        Answer::Refused(number) => words.extend([*number, 0]),
     }
     words
 }
@@ -73,7 +74,7 @@ impl Pairs<'_> {
     /// Begins a list made by this command.
     pub fn begin<'a>(out: &'a mut dyn Write, command: &str) -> io::Result<Pairs<'a>> {
         let source = "xtask/src/palette.rs";
-        head(out, "Pair", source, REFUSALS, command)?;
+        head(out, "Pair", source, BESIDE, command)?;
         Ok(Pairs {
             out,
             entries: [[0.0; STORED]; 2],
@@ -164,7 +165,7 @@ impl Pairs<'_> {
     pub fn best(&mut self, call: Call) -> io::Result<Option<f32>> {
         let answer = answer(self.rows(), call);
         self.count(call, &answer);
-        line(self.out, "best", &words_of(call, &answer))?;
+        line(self.out, "best", &words_of(call, &answer, self.lengths[0]))?;
         Ok(match answer {
             Answer::Found(chroma, _) => Some(chroma),
             Answer::Nothing | Answer::Refused(_) => None,
@@ -198,9 +199,25 @@ impl Pairs<'_> {
         })
     }
 
+    /// Writes the best of a pair with the rooms that a fixed list gives it; its tightest gap and its hues
+    /// are worked out by hand, and must be these.
+    pub fn must(
+        &mut self,
+        (c, k, step): (f32, u32, u32),
+        gap: u32,
+        hues: &[u32],
+    ) -> io::Result<()> {
+        let room = self.lengths[0];
+        let call = Call { k, step, c, room };
+        let words = words_of(call, &answer(self.rows(), call), room);
+        let given = words.len() == 7 + hues.len() && words[5] == gap && words[7..] == *hues;
+        assert!(given, "not what is worked out by hand");
+        self.from(c, k, step).map(|_| ())
+    }
+
     /// Writes the best of a pair that is wrong on purpose.
     pub fn wrong_best(&mut self, call: Call, change: impl FnOnce(&mut Vec<u32>)) -> io::Result<()> {
-        let words = words_of(call, &answer(self.rows(), call));
+        let words = words_of(call, &answer(self.rows(), call), self.lengths[0]);
         wrong(self.out, "best", &words, change)
     }
 

@@ -32,6 +32,7 @@ pub fn fixed(out: &mut dyn Write) -> io::Result<()> {
     for n in [3, 9, 16, 22, 23, 44, 45, 100, 180, 360, 500, 719, 720] {
         random_pair(&mut list, &mut random, (n, 24), Pairs::in_turn)?;
     }
+    gaps(&mut list)?;
     wrong_lists::pairs(&mut list)?;
     list.end()
 }
@@ -286,6 +287,20 @@ fn whole(list: &mut Pairs, random: &mut Random) -> io::Result<()> {
                 list.from(floor, k, step)?;
             }
         }
+    }
+    Ok(())
+}
+
+/// Writes pairs whose tightest gap follows from the rule: two hues stand out opposite to each other or
+/// nearly so, where a search from the floor alone would take nearer ones; and one hue alone, whose gap
+/// is the whole ring.
+fn gaps(list: &mut Pairs) -> io::Result<()> {
+    for (hues, gap) in [([100, 460], 360), ([100, 461], 359), ([99, 460], 359)] {
+        let mut row = [FLOOR; 720];
+        hues.iter().for_each(|hue| row[*hue as usize] = 60.0);
+        list.both([&row; 2])?;
+        list.must((FLOOR, 2, 301), gap, &hues)?;
+        list.must((FLOOR, 1, 601), 720, &hues[..1])?;
     }
     Ok(())
 }

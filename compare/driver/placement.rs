@@ -1,7 +1,8 @@
 //! The lines of a list of placement cases: rings, steps, placements and sweeps.
 
-use crate::cases::{head, line, word, wrong, REFUSALS};
+use crate::cases::{head, line, word, wrong, BESIDE};
 use crate::gamut::digest;
+use crate::gaps::tightest;
 use crate::placing;
 use crate::rooms::{sides, Rooms};
 use std::io::{self, Write};
@@ -70,6 +71,14 @@ fn answer(ring: &[f32], call: Call) -> Answer {
     }
 }
 
+/// The tightest gap of what a placement on a ring of n positions answers: 0 where nothing is placed.
+fn tightest_of(answer: &Answer, n: usize) -> usize {
+    match answer {
+        Answer::Placed(hues) => tightest(hues, n),
+        Answer::Nowhere | Answer::Refused(_) => 0,
+    }
+}
+
 /// The last of k indices from a start, each the earliest allowed one at least a step further
 /// on, as long as they stay on the ring; `next` gives the earliest allowed index over two laps.
 fn reached(next: &[usize], call: Call, start: usize) -> Option<usize> {
@@ -110,9 +119,10 @@ fn kinds(ring: &[f32], call: Call, answer: &Answer) -> (bool, bool) {
     (closing, first < n && !(first + 1..n).any(later))
 }
 
-/// The bytes of an answer in a digest: its kind, then sixteen hues of two bytes.
-fn bytes_of(answer: &Answer) -> [u8; 33] {
-    let mut bytes = [0; 33];
+/// The bytes of an answer on a ring of n positions in a digest: its kind, then sixteen hues and the
+/// tightest gap, each of two bytes.
+fn bytes_of(answer: &Answer, n: usize) -> [u8; 35] {
+    let mut bytes = [0; 35];
     match answer {
         Answer::Placed(hues) => {
             bytes[0] = 255;
@@ -123,6 +133,7 @@ fn bytes_of(answer: &Answer) -> [u8; 33] {
         Answer::Nowhere => {}
         Answer::Refused(number) => bytes[0] = *number as u8,
     }
+    bytes[33..].copy_from_slice(&(tightest_of(answer, n) as u16).to_le_bytes());
     bytes
 }
 
@@ -136,17 +147,17 @@ fn step_words(k: u32) -> [u32; 3] {
     [k, 0, step]
 }
 
-/// The words of a placement with this answer.
-fn place_words(call: Call, answer: &Answer) -> Vec<u32> {
+/// The words of a placement on a ring of n positions with this answer.
+fn place_words(call: Call, answer: &Answer, n: usize) -> Vec<u32> {
+    let (number, hues) = match answer {
+        Answer::Placed(hues) => (0, &hues[..]),
+        Answer::Nowhere => (0, &[][..]),
+        Answer::Refused(number) => (*number, &[][..]),
+    };
+    let gap = tightest_of(answer, n) as u32;
     let mut words = vec![call.k, call.step, word(call.c), call.room as u32];
-    match answer {
-        Answer::Placed(hues) => {
-            words.push(0);
-            words.extend(hues.iter().map(|hue| *hue as u32));
-        }
-        Answer::Nowhere => words.push(0),
-        Answer::Refused(number) => words.push(*number),
-    }
+    words.extend([number, gap]);
+    words.extend(hues.iter().map(|hue| *hue as u32));
     words
 }
 
@@ -175,7 +186,7 @@ impl Placements<'_> {
     /// Begins a list made by this command.
     pub fn begin<'a>(out: &'a mut dyn Write, command: &str) -> io::Result<Placements<'a>> {
         let source = "xtask/src/palette.rs";
-        head(out, "Placement", source, REFUSALS, command)?;
+        head(out, "Placement", source, BESIDE, command)?;
         Ok(Placements {
             out,
             entries: [0.0; STORED],
@@ -253,7 +264,7 @@ impl Placements<'_> {
     /// Writes a placement.
     pub fn place(&mut self, call: Call) -> io::Result<()> {
         let answer = self.answered(call);
-        line(self.out, "place", &place_words(call, &answer))
+        line(self.out, "place", &place_words(call, &answer, self.length))
     }
 
     /// Writes a placement with the rooms that a fixed list gives it; one that is too short stays.
@@ -274,19 +285,22 @@ impl Placements<'_> {
         self.in_turn(Call { k, step, c, room })
     }
 
-    /// Writes a placement whose hues are worked out by hand and must be these, or none.
+    /// Writes a placement whose tightest gap and hues are worked out by hand and must be these, or none.
     pub fn must(
         &mut self,
         (k, step, c): (u32, u32, f32),
-        hues: Option<&[usize]>,
+        expected: Option<(u32, &[u32])>,
     ) -> io::Result<()> {
-        let room = self.length;
-        let given = match answer(self.ring(), Call { k, step, c, room }) {
-            Answer::Placed(hues) => Some(hues),
-            Answer::Nowhere => None,
-            Answer::Refused(number) => panic!("refused by {number}"),
+        let call = Call {
+            k,
+            step,
+            c,
+            room: self.length,
         };
-        assert!(given.as_deref() == hues, "not what is worked out by hand");
+        let words = place_words(call, &answer(self.ring(), call), self.length);
+        let (gap, hues) = expected.unwrap_or_default();
+        let by_hand = [&[0, gap], hues].concat();
+        assert!(words[4..] == by_hand, "not what is worked out by hand");
         self.at(k, step, c)
     }
 
@@ -296,7 +310,7 @@ impl Placements<'_> {
         call: Call,
         change: impl FnOnce(&mut Vec<u32>),
     ) -> io::Result<()> {
-        let words = place_words(call, &answer(self.ring(), call));
+        let words = place_words(call, &answer(self.ring(), call), self.length);
         wrong(self.out, "place", &words, change)
     }
 
@@ -326,10 +340,19 @@ impl Placements<'_> {
 
     /// Writes the digest of every placement on the ring at these chromas.
     pub fn sweep(&mut self, chromas: &[f32]) -> io::Result<()> {
-        let calls = self.calls(chromas).into_iter();
-        let bytes: Vec<_> = calls.map(|call| bytes_of(&self.answered(call))).collect();
+        let (calls, n) = (self.calls(chromas).into_iter(), self.length);
+        let bytes: Vec<_> = calls
+            .map(|call| bytes_of(&self.answered(call), n))
+            .collect();
         let words = sweep_words(chromas, bytes.into_iter().flatten());
         line(self.out, "sweep", &words)
+    }
+
+    /// The words of a sweep at these chromas with the bytes of each answer as this shows them.
+    fn swept(&self, chromas: &[f32], shown: impl Fn([u8; 35]) -> [u8; 35]) -> Vec<u32> {
+        let calls = self.calls(chromas).into_iter();
+        let bytes = calls.flat_map(|call| shown(bytes_of(&answer(self.ring(), call), self.length)));
+        sweep_words(chromas, bytes)
     }
 
     /// Writes the digest of every placement on the ring at these chromas, wrong on purpose.
@@ -338,10 +361,19 @@ impl Placements<'_> {
         chromas: &[f32],
         change: impl FnOnce(&mut Vec<u32>),
     ) -> io::Result<()> {
-        let calls = self.calls(chromas).into_iter();
-        let bytes = calls.flat_map(|call| bytes_of(&answer(self.ring(), call)));
-        let words = sweep_words(chromas, bytes);
+        let words = self.swept(chromas, |bytes| bytes);
         wrong(self.out, "sweep", &words, change)
+    }
+
+    /// Writes the digest of every placement on the ring at these chromas with the tightest gaps of those
+    /// with hues off by one.
+    pub fn wrong_gaps(&mut self, chromas: &[f32]) -> io::Result<()> {
+        let off = |mut bytes: [u8; 35]| {
+            bytes[33] ^= u8::from(bytes[0] == 255);
+            bytes
+        };
+        let words = self.swept(chromas, off);
+        self.wrong_sweep(chromas, |right| *right = words)
     }
 
     /// Ends the list with how many answers of each kind it holds.

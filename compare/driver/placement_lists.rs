@@ -53,6 +53,7 @@ pub fn fixed(out: &mut dyn Write) -> io::Result<()> {
     ] {
         random_ring(&mut list, &mut random, (n, 60), Placements::in_turn)?;
     }
+    gaps(&mut list)?;
     wrong_lists::placements(&mut list)?;
     list.end()
 }
@@ -111,10 +112,10 @@ fn one_lap(list: &mut Placements) -> io::Result<()> {
     }
     list.set(&[0.0, 50.0, 0.0, 50.0])?;
     list.must((3, 1, 40.0), None)?;
-    list.must((2, 1, 40.0), Some(&[1, 3]))?;
+    list.must((2, 1, 40.0), Some((2, &[1, 3])))?;
     list.set(&[50.0, 0.0])?;
     list.must((2, 1, 40.0), None)?;
-    list.must((1, 1, 40.0), Some(&[0]))
+    list.must((1, 1, 40.0), Some((2, &[0])))
 }
 
 /// Writes the steps for all hue counts, and for some that are refused.
@@ -292,6 +293,29 @@ fn sweep_all(list: &mut Placements, most: u32) -> io::Result<()> {
             list.set(&ring)?;
             list.sweep(chromas.as_flattened())?;
         }
+    }
+    Ok(())
+}
+
+/// Writes placements whose tightest gap follows from the rule: the first, one between or the closing one
+/// is the smallest, or all are equal, or there is one hue and the gap is the whole ring.
+fn gaps(list: &mut Placements) -> io::Result<()> {
+    for (n, allowed, gap) in [
+        (3, &[0, 2][..], 1),
+        (3, &[0, 1], 1),
+        (9, &[1, 3, 6], 2),
+        (9, &[0, 3, 5], 2),
+        (9, &[1, 4, 8], 2),
+        (9, &[1, 4, 7], 3),
+        (720, &[719], 720),
+        (720, &[1, 361], 360),
+        (720, &[0, 361], 359),
+        (720, &[0, 719], 1),
+    ] {
+        let mut ring = vec![0.0; n];
+        allowed.iter().for_each(|hue| ring[*hue as usize] = 50.0);
+        list.set(&ring)?;
+        list.must((allowed.len() as u32, 1, 40.0), Some((gap, allowed)))?;
     }
     Ok(())
 }

@@ -1,12 +1,13 @@
 //! The lines of a list of search cases: a table, a job, and calls over both.
 
-use crate::cases::{head, line, word, wrong, REFUSALS};
+use crate::cases::{head, line, word, wrong, BESIDE};
 use crate::chroma::{l_of, max_chroma};
 use crate::gamut::digest;
 use crate::job::{self, Job, BLANK, FINISHED, ROOM};
 use crate::rooms::{sides, Rooms};
 use crate::standins::{directions, DIRECTIONS, LEVELS};
 use std::io::{self, Write};
+use std::ops::Range;
 
 /// How many entries a table can have that is lent, the ones refused among them.
 pub const STORED: usize = (LEVELS + 1) * DIRECTIONS;
@@ -25,17 +26,24 @@ fn equal(a: &[f32], b: &[f32]) -> bool {
     bits(a) == bits(b)
 }
 
-/// The words for the answer to a call: its number, then the field of the job after it at this
-/// place of its words, and the best with its k hues where there is one.
-fn said(answer: Result<Job, u32>, field: usize) -> Vec<u32> {
+/// Which of the words of a job are said after a call that is accepted: of a start the levels, of a step
+/// the position and the tightest gap, and of a search, which always ends at the last position, the
+/// tightest gap.
+const STARTED: Range<usize> = 2..3;
+const STEPPED: Range<usize> = 3..5;
+const SEARCHED: Range<usize> = 4..5;
+
+/// The words for the answer to a call: its number, then those fields of the job after it, and the best
+/// with its k hues where there is one.
+fn said(answer: Result<Job, u32>, fields: Range<usize>) -> Vec<u32> {
     let job = match answer {
         Ok(job) => job,
         Err(number) => return vec![number],
     };
     let words = job.words();
-    let mut said = vec![0, words[field]];
+    let mut said = [&[0], &words[fields]].concat();
     if job.best.is_some() {
-        said.extend(&words[5..8 + job.k as usize]);
+        said.extend(&words[6..9 + job.k as usize]);
     }
     said
 }
@@ -106,7 +114,7 @@ impl Searches<'_> {
         command: &str,
         rooms: Rooms,
     ) -> io::Result<Searches<'a>> {
-        let with = format!("the stand-ins of document 01 and {REFUSALS}");
+        let with = format!("the stand-ins of document 01, {BESIDE}");
         head(out, "Search", "xtask/src/palette.rs", &with, command)?;
         let (cos, sin) = directions();
         for (j, (cos, sin)) in cos.iter().zip(&sin).enumerate() {
@@ -236,8 +244,8 @@ impl Searches<'_> {
         self.lend(job)
     }
 
-    /// Takes the answer to a call, and gives the words for it with this field.
-    fn answered(&mut self, answer: Result<Job, u32>, field: usize) -> Vec<u32> {
+    /// Takes the answer to a call, and gives the words for it with these fields.
+    fn answered(&mut self, answer: Result<Job, u32>, fields: Range<usize>) -> Vec<u32> {
         match answer {
             Ok(job) => {
                 self.accepted += 1;
@@ -247,7 +255,7 @@ impl Searches<'_> {
             }
             Err(_) => self.refused += 1,
         }
-        said(answer, field)
+        said(answer, fields)
     }
 
     /// Writes a call with this answer that is wrong on purpose; it is not counted.
@@ -255,11 +263,11 @@ impl Searches<'_> {
         &mut self,
         operation: &str,
         input: &[u32],
-        (answer, field): (Result<Job, u32>, usize),
+        (answer, fields): (Result<Job, u32>, Range<usize>),
         change: impl FnOnce(&mut Vec<u32>),
     ) -> io::Result<()> {
         self.job = answer.unwrap_or(self.job);
-        let words = [input, &said(answer, field)].concat();
+        let words = [input, &said(answer, fields)].concat();
         wrong(self.out, operation, &words, change)
     }
 
@@ -270,7 +278,7 @@ impl Searches<'_> {
         change: impl FnOnce(&mut Vec<u32>),
     ) -> io::Result<()> {
         let answer = job::start(k, gap, self.table());
-        self.wrong("start", &[k, word(gap)], (answer, 2), change)
+        self.wrong("start", &[k, word(gap)], (answer, STARTED), change)
     }
 
     /// Writes a step in a work buffer of this length that is wrong on purpose.
@@ -280,7 +288,7 @@ impl Searches<'_> {
         change: impl FnOnce(&mut Vec<u32>),
     ) -> io::Result<()> {
         let answer = job::step(self.table(), room, self.job);
-        self.wrong("step", &[room as u32], (answer, 3), change)
+        self.wrong("step", &[room as u32], (answer, STEPPED), change)
     }
 
     /// Writes so many steps in one line, with a work buffer just long enough, wrong on purpose.
@@ -289,11 +297,18 @@ impl Searches<'_> {
         count: usize,
         change: impl FnOnce(&mut Vec<u32>),
     ) -> io::Result<()> {
-        let (answers, words) = self.stepped(count, ROOM);
+        let (answers, words) = self.stepped(count, ROOM, |job| job);
         for answer in answers {
             self.job = answer.unwrap_or(self.job);
         }
         wrong(self.out, "steps", &words, change)
+    }
+
+    /// Writes so many steps in one line, with a work buffer just long enough, and the digest as if the
+    /// jobs after them were as this shows them.
+    pub fn wrong_jobs(&mut self, count: usize, shown: impl Fn(Job) -> Job) -> io::Result<()> {
+        let (_, words) = self.stepped(count, ROOM, shown);
+        self.wrong_steps(count, |right| *right = words.to_vec())
     }
 
     /// Writes a whole search in a work buffer of this length that is wrong on purpose.
@@ -304,7 +319,7 @@ impl Searches<'_> {
     ) -> io::Result<()> {
         let answer = job::search(k, gap, self.table(), room);
         let input = [k, word(gap), room as u32];
-        self.wrong("search", &input, (answer, 3), change)
+        self.wrong("search", &input, (answer, SEARCHED), change)
     }
 
     /// Counts a start or a search with this answer before it is taken.
@@ -321,7 +336,7 @@ impl Searches<'_> {
         let answer = job::start(k, gap, self.table());
         self.begins(k, gap, answer);
         let mut words = vec![k, word(gap)];
-        words.extend(self.answered(answer, 2));
+        words.extend(self.answered(answer, STARTED));
         line(self.out, "start", &words)
     }
 
@@ -342,7 +357,7 @@ impl Searches<'_> {
             self.lend_again(lent)?;
             let answer = job::step(self.table(), *room, lent);
             let mut words = vec![*room as u32];
-            words.extend(self.answered(answer, 3));
+            words.extend(self.answered(answer, STEPPED));
             line(self.out, "step", &words)?;
         }
         Ok(())
@@ -366,9 +381,9 @@ impl Searches<'_> {
         let lent = self.job;
         for room in rooms {
             self.lend_again(lent)?;
-            let (answers, words) = self.stepped(count, *room);
+            let (answers, words) = self.stepped(count, *room, |job| job);
             for answer in answers {
-                self.answered(answer, 3);
+                self.answered(answer, STEPPED);
             }
             line(self.out, "steps", &words)?;
         }
@@ -381,14 +396,20 @@ impl Searches<'_> {
         self.steps_in(count, &rooms)
     }
 
-    /// The answers to so many steps in a work buffer of this length, and the words of their line.
-    fn stepped(&self, count: usize, room: usize) -> (Vec<Result<Job, u32>>, [u32; 4]) {
+    /// The answers to so many steps in a work buffer of this length, and the words of their line, where
+    /// the digest has the jobs after them as this shows them.
+    fn stepped(
+        &self,
+        count: usize,
+        room: usize,
+        shown: impl Fn(Job) -> Job,
+    ) -> (Vec<Result<Job, u32>>, [u32; 4]) {
         let (mut job, mut answers, mut bytes) = (self.job, vec![], vec![]);
         for _ in 0..count {
             let answer = job::step(self.table(), room, job);
             job = answer.unwrap_or(job);
             bytes.push(answer.err().unwrap_or(0) as u8);
-            bytes.extend(job.bytes());
+            bytes.extend(shown(job).bytes());
             answers.push(answer);
         }
         let sum = digest(bytes.into_iter());
@@ -453,7 +474,7 @@ impl Searches<'_> {
                 self.searches.count(job, again);
             }
             let mut words = vec![k, word(gap), *room as u32];
-            words.extend(self.answered(answer, 3));
+            words.extend(self.answered(answer, SEARCHED));
             line(self.out, "search", &words)?;
         }
         Ok(())

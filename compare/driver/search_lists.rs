@@ -1,7 +1,7 @@
 //! Which cases the lists of search cases hold.
 
 use crate::gap_lists;
-use crate::job::{Job, FLOOR, LEAST_GAP, ROOM};
+use crate::job::{step_refusal, Job, BROKEN, FLOOR, LEAST_GAP, ROOM};
 use crate::level_set_lists;
 use crate::lists::step as float_step;
 use crate::orientation_lists;
@@ -83,6 +83,7 @@ pub fn fixed(out: &mut dyn Write) -> io::Result<()> {
     }
     gap_lists::fixed(&mut list)?;
     whole_panel(&mut list)?;
+    tightest_gaps(&mut list)?;
     wrong_lists::searches(&mut list)?;
     list.end()?;
     // How many calls there are above does not move the rooms of the parts after them.
@@ -135,6 +136,15 @@ pub const MIDST: Job = Job {
     position: 2,
     best: Some((40.0, 0, 3)),
     hues: [0, 300, 719, 0, 0, 0, 0, 0, 0, 0, 0, 0, 0, 0, 0, 0],
+    tightest: 1,
+};
+
+/// The same with none so far.
+pub const MIDST_NONE: Job = Job {
+    best: None,
+    hues: [0; 16],
+    tightest: 0,
+    ..MIDST
 };
 
 /// A record with every field out of its range.
@@ -145,6 +155,7 @@ pub const WORST: Job = Job {
     position: u32::MAX,
     best: Some((f32::NAN, u32::MAX, u32::MAX)),
     hues: [u16::MAX; 16],
+    tightest: u32::MAX,
 };
 
 /// Writes starts with every set of the faults that one can have, of which the lowest is given.
@@ -216,7 +227,7 @@ fn gaps_taken(list: &mut Searches) -> io::Result<()> {
     Ok(())
 }
 
-/// The records with one field out of its range, made from one that has a best.
+/// The records with one field but the tightest gap out of its range, made from one that has a best.
 pub fn damaged(job: Job) -> Vec<Job> {
     let (chroma, dark, light) = job.best.expect("a best");
     let mut records = vec![];
@@ -244,9 +255,11 @@ pub fn damaged(job: Job) -> Vec<Job> {
     if k < 16 {
         records.extend([k, 15].map(|at| hued(at, 1)));
     }
-    let mut none = hued(0, 1);
-    none.best = None;
-    records.push(none);
+    records.push(Job {
+        best: None,
+        tightest: 0,
+        ..hued(0, 1)
+    });
     records
 }
 
@@ -256,11 +269,12 @@ fn full() -> Job {
     hues.iter_mut()
         .enumerate()
         .for_each(|(i, hue)| *hue -= 40 * i as u16);
-    Job {
+    let job = Job {
         k: 16,
         hues,
         ..MIDST
-    }
+    };
+    job.filled_in()
 }
 
 /// Writes a step for each record with one field out of its range.
@@ -283,22 +297,17 @@ fn not_broken(list: &mut Searches) -> io::Result<()> {
         best: Some((chroma, dark, light)),
         ..MIDST
     };
-    let none = Job {
-        best: None,
-        hues: [0; 16],
-        ..MIDST
-    };
     let at = |position: u32| Job { position, ..MIDST };
     let apart = |gap: f32| Job { gap, ..MIDST };
     let mut records = vec![with(35.0, 0, 3), with(200.0, 3, 3), with(35.000004, 2, 0)];
-    records.extend([with(49.999996, 3, 0), with(50.0, 1, 1), none]);
+    records.extend([with(49.999996, 3, 0), with(50.0, 1, 1), MIDST_NONE]);
     records.extend([at(0), at(3), at(15), at(16)]);
     records.extend([apart(0.0), apart(1e-45), apart(84.0), full()]);
     records.extend([
         Job { levels: 3, ..MIDST },
         Job {
             levels: 169,
-            ..none
+            ..MIDST_NONE
         },
     ]);
     for job in records {
@@ -531,6 +540,63 @@ fn whole_panel(list: &mut Searches) -> io::Result<()> {
     }
     list.start(8, 40.0)?;
     list.steps_in(LEVELS * LEVELS + 1, &rooms)
+}
+
+/// Writes steps of records by their tightest gap: at and beyond the ends of its range, with a best and
+/// with none so far; and wrong ones in that range, which stay until a better pair is found.
+fn tightest_gaps(list: &mut Searches) -> io::Result<()> {
+    writeln!(list.out(), "# Jobs by their tightest gap.")?;
+    list.set(&flat(4, 50.0))?;
+    for (job, tightest, is_broken) in [
+        (MIDST, 0, true),
+        (MIDST, 1, false),
+        (MIDST, 720, false),
+        (MIDST, 721, true),
+        (MIDST, u32::MAX, true),
+        (MIDST_NONE, 0, false),
+        (MIDST_NONE, 1, true),
+        (MIDST_NONE, 5, true),
+        (MIDST_NONE, 720, true),
+        (MIDST_NONE, 721, true),
+    ] {
+        let job = Job { tightest, ..job };
+        let refused = step_refusal(list.table(), ROOM, &job);
+        assert!(refused == is_broken.then_some(BROKEN), "broken, or not");
+        // The first pair is too close together, the fourth is better than the best, and there is none
+        // after the sixteenth.
+        for position in [0, 3, 16] {
+            list.lend(Job { position, ..job })?;
+            list.step()?;
+        }
+    }
+    wrong_gaps(list)
+}
+
+/// Writes steps of a job whose tightest gap is in its range and not that of its hues: over rows of 40 it
+/// stays, and over rows of 50 the fourth step replaces it by that of the hues found.
+fn wrong_gaps(list: &mut Searches) -> io::Result<()> {
+    let mut job = Job {
+        k: 2,
+        position: 0,
+        tightest: 7,
+        ..MIDST
+    };
+    job.hues = [0; 16];
+    job.hues[1] = 360;
+    for (v, last) in [(40.0, 7), (50.0, 301)] {
+        list.set(&flat(4, v))?;
+        list.lend(job)?;
+        let mut gaps = vec![];
+        for _ in 0..5 {
+            list.step()?;
+            gaps.push(list.job().tightest);
+        }
+        assert!(gaps == [7, 7, 7, last, last], "another tightest gap");
+        list.lend(job)?;
+        list.steps(job.pairs() as usize + 1)?;
+        assert!(list.job().tightest == last, "another tightest gap");
+    }
+    Ok(())
 }
 
 /// How many kinds of random tables there are, and how many of them take few lines.

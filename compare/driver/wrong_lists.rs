@@ -16,7 +16,7 @@ use crate::palettes::{Design, Palettes};
 use crate::placement::{Call, Placements};
 use crate::placement_lists::MARKED;
 use crate::search::Searches;
-use crate::search_lists::{flat, MIDST, SMALL};
+use crate::search_lists::{flat, MIDST, MIDST_NONE, SMALL};
 use crate::standins::LEVELS;
 use std::io;
 
@@ -35,6 +35,14 @@ fn last(place: usize, word: u32) -> impl Fn(&mut Vec<u32>) {
     move |words| {
         words.truncate(place);
         words.push(word);
+    }
+}
+
+/// Another number at a place, and none after the tightest gap, which stays as it is.
+fn alone(place: usize, number: u32) -> impl Fn(&mut Vec<u32>) {
+    move |words| {
+        words.truncate(place + 2);
+        words[place] = number;
     }
 }
 
@@ -95,7 +103,8 @@ pub fn gamuts(list: &mut List) -> io::Result<()> {
 }
 
 /// Writes steps, placements and sweeps of which the number, the kind of the answer, the step, the
-/// first or the last hue or the digest is another, and one as if two laps were too short.
+/// tightest gap, the first or the last hue or the digest is another, and one as if two laps were too
+/// short.
 pub fn placements(list: &mut Placements) -> io::Result<()> {
     for k in [7, 17] {
         list.wrong_step(k, off(1))?;
@@ -104,38 +113,42 @@ pub fn placements(list: &mut Placements) -> io::Result<()> {
     list.set(&MARKED)?;
     let (placed, none, refused) = ((1, 8, 40.0), (2, 3, 51.0), (17, 3, 40.0));
     // Hues that are all zero leave the kind of the answer to tell them.
-    list.wrong_at(placed, last(4, 0))?;
-    list.wrong_at(placed, last(4, 3))?;
+    list.wrong_at(placed, alone(4, 0))?;
+    list.wrong_at(placed, alone(4, 3))?;
     list.wrong_at(none, |words| words.extend([0; 2]))?;
     list.wrong_at(none, put(4, 3))?;
     list.wrong_at(refused, put(4, 3))?;
     list.wrong_at(refused, put(4, 0))?;
     let (k, step, c) = placed;
     let room = 2 * MARKED.len();
-    list.wrong_place(Call { k, step, c, room }, last(4, BAD_WORK))?;
+    list.wrong_place(Call { k, step, c, room }, alone(4, BAD_WORK))?;
+    // The whole ring, the gap between two hues, and none.
+    for one in [placed, (2, 3, 40.0), none, refused] {
+        list.wrong_at(one, off(5))?;
+    }
     list.set(&[60.0; 16])?;
-    for place in [5, 20] {
+    for place in [5, 6, 21] {
         list.wrong_at((16, 1, 60.0), off(place))?;
     }
     list.set(&MARKED[..3])?;
     for place in [0, 1] {
         list.wrong_sweep(&[40.0, 50.0], off(place))?;
     }
-    Ok(())
+    list.wrong_gaps(&[40.0, 50.0])
 }
 
-/// Writes pairs of which the number, the kind of the answer, the chroma or the first or the last
-/// hue is another, and one as if two laps were too short.
+/// Writes pairs of which the number, the kind of the answer, the tightest gap, the chroma or the first or
+/// the last hue is another, and one as if two laps were too short.
 pub fn pairs(list: &mut Pairs) -> io::Result<()> {
     // A chroma and hues that are all zero leave the kind of the answer to tell them.
     list.both([&[0.0; 8]; 2])?;
-    list.wrong_from((0.0, 1, 8), last(4, 0))?;
-    list.wrong_from((0.0, 1, 8), last(4, 3))?;
+    list.wrong_from((0.0, 1, 8), alone(4, 0))?;
+    list.wrong_from((0.0, 1, 8), alone(4, 3))?;
     list.both([&[50.0; 8]; 2])?;
     let (found, none, refused) = ((FLOOR, 1, 8), (FLOOR, 2, 5), (FLOOR, 17, 3));
     for by in [-1, 1] {
         let chroma = word(float_step(50.0, by));
-        list.wrong_from(found, put(5, chroma))?;
+        list.wrong_from(found, put(6, chroma))?;
     }
     list.wrong_from(none, |words| words.extend([word(50.0), 0, 0]))?;
     list.wrong_from(none, put(4, 3))?;
@@ -143,9 +156,13 @@ pub fn pairs(list: &mut Pairs) -> io::Result<()> {
     list.wrong_from(refused, put(4, 0))?;
     let (c, k, step) = found;
     let room = 2 * list.rows()[0].len();
-    list.wrong_best(Call { k, step, c, room }, last(4, BAD_WORK))?;
+    list.wrong_best(Call { k, step, c, room }, alone(4, BAD_WORK))?;
+    // The whole ring, the gap between two hues, and none.
+    for one in [found, (FLOOR, 2, 3), none, refused] {
+        list.wrong_from(one, off(5))?;
+    }
     list.both([&[60.0; 16], &[61.5; 16]])?;
-    for place in [6, 21] {
+    for place in [5, 7, 22] {
         list.wrong_from((FLOOR, 16, 1), off(place))?;
     }
     Ok(())
@@ -174,7 +191,9 @@ fn wrong_searches(list: &mut Searches) -> io::Result<()> {
     list.wrong_search((17, LEAST_GAP, ROOM), put(3, 2))?;
     list.wrong_search((17, LEAST_GAP, ROOM), put(3, 0))?;
     list.wrong_search((16, SMALL, ROOM), put(3, 0))?;
-    list.wrong_search((16, SMALL, ROOM), |words| words.push(83 * 83))
+    list.wrong_search((16, SMALL, ROOM), |words| words.push(0))?;
+    // One that finds nothing, which leaves 0.
+    list.wrong_search((16, float_step(LEAST_GAP, 1), ROOM), off(4))
 }
 
 /// Writes starts: one that is accepted and has no levels must leave the job that it was lent,
@@ -188,6 +207,7 @@ fn wrong_starts(list: &mut Searches) -> io::Result<()> {
         position: 0,
         best: None,
         hues: [0; 16],
+        tightest: 0,
     };
     let hued = |at: usize| {
         let mut hues = begun.hues;
@@ -210,6 +230,10 @@ fn wrong_starts(list: &mut Searches) -> io::Result<()> {
         Job { best, ..begun },
         hued(0),
         hued(15),
+        Job {
+            tightest: 1,
+            ..begun
+        },
     ] {
         list.lend(lent)?;
         list.wrong_start((k, gap), last(2, 0))?;
@@ -236,24 +260,23 @@ fn wrong_steps(list: &mut Searches) -> io::Result<()> {
         position: 3,
         ..MIDST
     };
-    for place in [1, 2, 3, 4, 5, 6, 8] {
+    for place in [1, 2, 3, 4, 5, 6, 7, 9] {
         list.lend(better)?;
         list.wrong_step(ROOM, off(place))?;
     }
     // Hues that are all zero leave the best to tell them.
-    let hues = [0; 16];
-    list.lend(Job {
+    let one = Job {
         k: 1,
-        hues,
+        hues: [0; 16],
         ..better
-    })?;
-    list.wrong_step(ROOM, |words| words.truncate(3))?;
-    list.lend(Job {
+    };
+    list.lend(one.filled_in())?;
+    list.wrong_step(ROOM, |words| words.truncate(4))?;
+    let first = Job {
         position: 0,
-        best: None,
-        hues,
-        ..MIDST
-    })?;
+        ..MIDST_NONE
+    };
+    list.lend(first)?;
     list.wrong_step(ROOM, |words| words.extend([word(50.0), 0, 0, 0, 0, 0]))?;
     list.lend(MIDST)?;
     list.wrong_step(ROOM - 1, put(1, 7))?;
@@ -262,7 +285,17 @@ fn wrong_steps(list: &mut Searches) -> io::Result<()> {
         list.wrong_steps(5, off(place))?;
     }
     list.lend(better)?;
-    list.wrong_step(2 * ROOM, last(1, BAD_WORK))
+    list.wrong_step(2 * ROOM, last(1, BAD_WORK))?;
+    // Steps that leave the tightest gap, with a best and with none so far, and a digest after each.
+    for lent in [MIDST, first] {
+        list.lend(lent)?;
+        list.wrong_step(ROOM, off(3))?;
+        list.wrong_jobs(2, |job| Job {
+            tightest: job.tightest ^ 1,
+            ..job
+        })?;
+    }
+    Ok(())
 }
 
 /// Writes steps of kept jobs that are said to be refused for their gap or as broken, one finished
@@ -307,22 +340,22 @@ pub fn orientations(list: &mut Orientations) -> io::Result<()> {
     })
 }
 
-/// Writes calls with a list of levels of which the number, the kind of the answer, the chroma or the
-/// first or the last hue is another, and one as if two laps were too short.
+/// Writes calls with a list of levels of which the number, the kind of the answer, the tightest gap, the
+/// chroma or the first or the last hue is another, and one as if two laps were too short.
 pub fn level_sets(list: &mut LevelSets) -> io::Result<()> {
     list.tables.set(&flat(4, 50.0))?;
     list.name(&[3, 0])?;
     let (found, refused) = ((16, ROOM), (1, ROOM - 1));
     for by in [-1, 1] {
-        list.wrong(found, put(3, word(float_step(50.0, by))))?;
+        list.wrong(found, put(4, word(float_step(50.0, by))))?;
     }
-    for place in [4, 19] {
+    for place in [3, 5, 20] {
         list.wrong(found, off(place))?;
     }
     list.wrong(found, put(2, 18))?;
-    list.wrong(found, last(2, 0))?;
-    list.wrong(found, last(2, 18))?;
-    list.wrong((16, 2 * ROOM), last(2, BAD_WORK))?;
+    list.wrong(found, alone(2, 0))?;
+    list.wrong(found, alone(2, 18))?;
+    list.wrong((16, 2 * ROOM), alone(2, BAD_WORK))?;
     list.wrong(refused, put(2, 18))?;
     list.wrong(refused, put(2, 0))?;
     list.wrong(refused, |words| {
@@ -335,9 +368,12 @@ pub fn level_sets(list: &mut LevelSets) -> io::Result<()> {
     list.name(&[0])?;
     list.wrong(one, |words| words.extend([0; 2]))?;
     list.wrong(one, put(2, 18))?;
+    list.wrong(one, off(3))?;
     list.tables.more(719, &[1e-45])?;
-    list.wrong(one, last(2, 0))?;
-    list.wrong(one, last(2, 18))
+    list.wrong(one, alone(2, 0))?;
+    list.wrong(one, alone(2, 18))?;
+    list.wrong(one, off(3))?;
+    list.wrong((1, ROOM - 1), off(3))
 }
 
 /// Writes derivations, validations and back-offs of which the number, a channel of the first or

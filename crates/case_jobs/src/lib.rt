@@ -18,22 +18,23 @@ pub fn settings_said(words: [u32; 24]) -> Settings
     }
 }
 
-// A job by the words of its line, `job k gap levels position h ..`, with none so far and zeros after the last hue.
+// A job by the words of its line, `job k gap levels position tightest h ..`, with none so far and zeros after the last hue.
 pub fn job_said(words: [u32; 24], count: usize) -> Job
     ensures { λ r. ⌜ JobSaid words r ⌝ }
 {
     let settings = settings_said(words);
-    let hues = hues::all_said(words, 4, count);
+    let hues = hues::all_said(words, 5, count);
     Job {
         settings,
         levels: size_at(words, 2),
         position: size_at(words, 3),
         best: Best::None,
         hues,
+        tightest: size_at(words, 4),
     }
 }
 
-// The same job with the best that the words of a line say, `best chroma dark light`.
+// The same job with the best and the tightest gap that the words of a line say, `best chroma dark light tightest`.
 pub fn with_best(job: Job, words: [u32; 24]) -> Job
     ensures { λ r. ⌜ BestSaid words job r ⌝ }
 {
@@ -46,6 +47,7 @@ pub fn with_best(job: Job, words: [u32; 24]) -> Job
         position: job.position,
         best,
         hues,
+        tightest: size_at(words, 3),
     }
 }
 

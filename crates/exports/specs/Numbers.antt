@@ -40,6 +40,11 @@ abbrev pub searchHands : Said Job → List ℕ → List ℕ → List Float → H
 searchHands (value j) hues levels chroma = bestHands (j .best) (j .hues) levels chroma
 searchHands (refused n) hues levels chroma = handed n hues levels chroma
 
+-- the one number after it, the smallest gap of the job's hues: written where it is accepted
+abbrev pub searchGap : Said Job → List ℕ → List ℕ
+searchGap (value j) old = j .tightest ∷ []
+searchGap (refused n) old = old
+
 -- after a call with one hue fixed that says this: 0 with the chroma, the two hues and the two levels, 255 where there is none, with zeros for hues and the others as before, or the
 -- number of the refusal with all as before
 abbrev pub orientationHands : ℕ → Said Best → List ℕ → List ℕ → List Float → Handed
@@ -52,8 +57,8 @@ abbrev pub bestOf : Bool → Float → ℕ → ℕ → search.Best
 bestOf some c d l = cond some (Found c d l) None
 
 -- the job that its fields make
-abbrev pub jobOf : ℕ → Float → ℕ → ℕ → search.Best → List ℕ → Job
-jobOf k gap levels position best hues = record { settings = settingsOf k gap; levels = levels; position = position; best = best; hues = hues }
+abbrev pub jobOf : ℕ → Float → ℕ → ℕ → search.Best → List ℕ → ℕ → Job
+jobOf k gap levels position best hues tightest = record { settings = settingsOf k gap; levels = levels; position = position; best = best; hues = hues; tightest = tightest }
 
 -- what a page leaves a caller with: a number, the buffer, and one count of bytes
 pub record Paged : Type 0 where

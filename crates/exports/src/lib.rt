@@ -13,17 +13,18 @@ ghost use mathlib.Core.List.{map};
 ghost use Prim.Native.Nat.{ℕ};
 ghost use lib.ListN.{length};
 ghost use Rattle.limits.specs.Answers.{refused};
-ghost use Rattle.placement_rules.specs.Placing.{placementSays};
+ghost use Rattle.placement_rules.specs.Placing.{placementSays, tightestBeside};
+ghost use Rattle.pair_rules.specs.Pair as pair;
 ghost use Rattle.pair_rules.specs.Pair.{pairSays};
 ghost use Rattle.search_rules.specs.Job.{searchSays};
 ghost use Rattle.gamut.specs.Gamut.{fillSays, rowAfter};
 ghost use Rattle.srgb.specs.Parts.{toHex};
 ghost use Rattle.palette.specs.BackOff.{backOffSays};
 ghost use Rattle.page.specs.Page.{pageSays};
-ghost use Rattle.handing.specs.Numbers.{numberOf, placeNumber, huesAfter, bestNumber, bestHues, bestChroma};
+ghost use Rattle.handing.specs.Numbers.{numberOf, placeNumber, huesAfter, gapAfter, bestNumber, bestHues, bestChroma};
 ghost use Rattle.orientation_rules.specs.Orientation.{orientationSays};
 ghost use Rattle.level_set_rules.specs.Set.{setSays};
-ghost use Rattle.exports.specs.Numbers.{settingsOf, handed, searchHands, orientationHands, bestOf, jobOf, paged, pageHands, designOf, backed, backOffHands};
+ghost use Rattle.exports.specs.Numbers.{settingsOf, handed, searchHands, searchGap, orientationHands, bestOf, jobOf, paged, pageHands, designOf, backed, backOffHands};
 
 // What is given where no chroma is found.
 const NO_CHROMA: u32 = 255;
@@ -40,8 +41,9 @@ pub extern "C" fn tengcuvo_fill_row(level: usize, cos: &[f32], sin: &[f32], row:
     handing::fill_row(level, cos, sin, row)
 }
 
-// k hues at least `step` apart all round a ring of entries m, each with an entry of at least c: gives 0 with sixteen hues, 255
-// with zeros where there is no placement, or the number of a refusal, with the hues and the work buffer as before.
+// k hues at least `step` apart all round a ring of entries m, each with an entry of at least c: gives 0 with sixteen hues and the
+// smallest gap of the k in positions, 255 with zeros where there is no placement, or the number of a refusal, with the hues, the gap
+// and the work buffer as before.
 #[no_mangle]
 pub extern "C" fn tengcuvo_place(
     m: &[f32],
@@ -50,16 +52,18 @@ pub extern "C" fn tengcuvo_place(
     step: usize,
     work: &mut [u16],
     hues: &mut [u16; 16],
+    tightest: &mut [usize; 1],
 ) -> u32
     ensures { λ r. ⌜ (r ≡ placeNumber (placementSays k step c (now (m .entry)) (length (now (work .entry))))) × (now (hues .exit) ≡ huesAfter (placementSays k step c (now (m .entry)) (length (now (work .entry)))) (now (hues .entry))) ⌝ }
+    ensures { λ r. ⌜ now (tightest .exit) ≡ gapAfter (placementSays k step c (now (m .entry)) (length (now (work .entry)))) (tightestBeside (length (now (m .entry))) k (placementSays k step c (now (m .entry)) (length (now (work .entry))))) (now (tightest .entry)) ⌝ }
     ensures { λ r. ⌜ ((w : ℕ) → placementSays k step c (now (m .entry)) (length (now (work .entry))) ≡ refused w → now (work .exit) ≡ now (work .entry)) ⌝ }
 {
-    handing::place(m, c, k, step, work, hues)
+    handing::place(m, c, k, step, work, hues, tightest)
 }
 
-// The best chroma of two rows from a floor up, for k hues at least `step` apart all round: gives 0 with the chroma and sixteen
-// hues, 255 with zeros for hues and the chroma as before where there is none, or the number of a refusal, with the hues, the
-// chroma and the work buffer as before.
+// The best chroma of two rows from a floor up, for k hues at least `step` apart all round: gives 0 with the chroma, sixteen hues and
+// the smallest gap of the k in positions, 255 with zeros for hues and gap and the chroma as before where there is none, or the number
+// of a refusal, with the hues, the gap, the chroma and the work buffer as before.
 #[no_mangle]
 pub extern "C" fn tengcuvo_best(
     a: &[f32],
@@ -69,12 +73,14 @@ pub extern "C" fn tengcuvo_best(
     floor: f32,
     work: &mut [u16],
     hues: &mut [u16; 16],
+    tightest: &mut [usize; 1],
     chroma: &mut [f32; 1],
 ) -> u32
     ensures { λ r. ⌜ (r ≡ bestNumber (pairSays k step floor (now (a .entry)) (now (b .entry)) (length (now (work .entry))))) × ((now (hues .exit) ≡ bestHues (pairSays k step floor (now (a .entry)) (now (b .entry)) (length (now (work .entry)))) (now (hues .entry))) × (now (chroma .exit) ≡ bestChroma (pairSays k step floor (now (a .entry)) (now (b .entry)) (length (now (work .entry)))) (now (chroma .entry)))) ⌝ }
+    ensures { λ r. ⌜ now (tightest .exit) ≡ gapAfter (pairSays k step floor (now (a .entry)) (now (b .entry)) (length (now (work .entry)))) (pair.tightestBeside (length (now (a .entry))) k (pairSays k step floor (now (a .entry)) (now (b .entry)) (length (now (work .entry))))) (now (tightest .entry)) ⌝ }
     ensures { λ r. ⌜ ((w : ℕ) → pairSays k step floor (now (a .entry)) (now (b .entry)) (length (now (work .entry))) ≡ refused w → now (work .exit) ≡ now (work .entry)) ⌝ }
 {
-    handing::best(a, b, k, step, floor, work, hues, chroma)
+    handing::best(a, b, k, step, floor, work, hues, tightest, chroma)
 }
 
 // The job that a whole search is lent, of which nothing is handed out.
@@ -85,12 +91,13 @@ fn blank(settings: Settings) -> Job {
         position: 0,
         best: Best::None,
         hues: [0u16; 16],
+        tightest: 0,
     }
 }
 
 // The whole search of a table for k hues, on levels at least gap + 1 apart, gap being from 40 to 84: gives 0 with the chroma, sixteen
-// hues and the dark and the light level index, 255 with zeros for hues and the others as before where there is none, or the number
-// of a refusal, with all that is lent as before.
+// hues, the smallest gap of the k in positions and the dark and the light level index, 255 with zeros for hues and gap and the others
+// as before where there is none, or the number of a refusal, with all that is lent as before.
 #[no_mangle]
 pub extern "C" fn tengcuvo_search(
     k: usize,
@@ -98,10 +105,12 @@ pub extern "C" fn tengcuvo_search(
     table: &[f32],
     work: &mut [u16],
     hues: &mut [u16; 16],
+    tightest: &mut [usize; 1],
     levels: &mut [usize; 2],
     chroma: &mut [f32; 1],
 ) -> u32
     ensures { λ r. ⌜ handed r (now (hues .exit)) (now (levels .exit)) (now (chroma .exit)) ≡ searchHands (searchSays (settingsOf k gap) (now (table .entry)) (length (now (work .entry)))) (now (hues .entry)) (now (levels .entry)) (now (chroma .entry)) ⌝ }
+    ensures { λ r. ⌜ now (tightest .exit) ≡ searchGap (searchSays (settingsOf k gap) (now (table .entry)) (length (now (work .entry)))) (now (tightest .entry)) ⌝ }
     ensures { λ r. ⌜ ((w : ℕ) → searchSays (settingsOf k gap) (now (table .entry)) (length (now (work .entry))) ≡ refused w → now (work .exit) ≡ now (work .entry)) ⌝ }
 {
     let settings = Settings { k, gap };
@@ -113,6 +122,7 @@ pub extern "C" fn tengcuvo_search(
     match answer {
         search::Answer::Refused(why) => why.number() as u32,
         search::Answer::Accepted => {
+            *tightest = [job.tightest];
             match best {
                 Best::None => {
                     *hues = [0u16; 16];
@@ -194,9 +204,9 @@ fn best_of(found: bool, chroma: f32, dark: usize, light: usize) -> Best
     Best::None
 }
 
-// The page of a job for the service book, of which the arguments up to the hues are the record: whether there is a best so far and, if
-// so, its chroma, its level indices and its hues, which are zeros after the first k, all of them zeros where there is none. Gives 0 with
-// the page from the first byte on and how many bytes it has, the rest of the buffer as before, or the number of a refusal, with both as
+// The page of a job for the service book, of which the arguments up to the smallest gap are the record: whether there is a best so far
+// and, if so, its chroma, its level indices, its hues, which are zeros after the first k, and their smallest gap; the hues and the gap
+// are zeros where there is none. Gives 0 with the page from the first byte on and how many bytes it has, the rest of the buffer as before, or the number of a refusal, with both as
 // before. 861 bytes are enough for every page.
 #[no_mangle]
 pub extern "C" fn tengcuvo_page(
@@ -209,10 +219,11 @@ pub extern "C" fn tengcuvo_page(
     dark: usize,
     light: usize,
     hues: &[u16; 16],
+    tightest: usize,
     page: &mut [u8],
     written: &mut [usize; 1],
 ) -> u32
-    ensures { λ r. ⌜ paged r (now (page .exit)) (now (written .exit)) ≡ pageHands (pageSays (jobOf k gap levels position (bestOf found chroma dark light) (now (hues .entry))) (length (now (page .entry)))) (jobOf k gap levels position (bestOf found chroma dark light) (now (hues .entry))) (now (page .entry)) (now (written .entry)) ⌝ }
+    ensures { λ r. ⌜ paged r (now (page .exit)) (now (written .exit)) ≡ pageHands (pageSays (jobOf k gap levels position (bestOf found chroma dark light) (now (hues .entry)) tightest) (length (now (page .entry)))) (jobOf k gap levels position (bestOf found chroma dark light) (now (hues .entry)) tightest) (now (page .entry)) (now (written .entry)) ⌝ }
 {
     let indices = *hues;
     let job = Job {
@@ -221,6 +232,7 @@ pub extern "C" fn tengcuvo_page(
         position,
         best: best_of(found, chroma, dark, light),
         hues: indices,
+        tightest,
     };
     let laid = page::lay_out(job, page);
     match laid {

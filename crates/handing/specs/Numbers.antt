@@ -24,6 +24,11 @@ abbrev pub huesAfter : Said Places → List ℕ → List ℕ
 huesAfter (value p) hues = huesBeside (value p)
 huesAfter (refused n) hues = hues
 
+-- the one number after a call that says this and has this smallest gap: written where it is accepted
+abbrev pub gapAfter : {A : Type 0} → Said A → ℕ → List ℕ → List ℕ
+gapAfter (value v) t old = t ∷ []
+gapAfter (refused n) t old = old
+
 -- 0 where a chroma is found, 255 where there is none, else the number of the refusal
 abbrev pub bestNumber : Said Best → ℕ
 bestNumber (value (found c hues)) = 0

@@ -6,10 +6,11 @@ ghost use mathlib.Core.Path.{_≡_};
 ghost use Prim.Native.Nat.{ℕ};
 ghost use lib.ListN.{length};
 ghost use Rattle.limits.specs.Answers.{refused};
-ghost use Rattle.placement_rules.specs.Placing.{placementSays};
+ghost use Rattle.placement_rules.specs.Placing.{placementSays, tightestBeside};
+ghost use Rattle.pair_rules.specs.Pair as pair;
 ghost use Rattle.pair_rules.specs.Pair.{pairSays, answers};
 ghost use Rattle.gamut.specs.Gamut.{fillSaid, fillSays, rowAfter};
-ghost use Rattle.handing.specs.Numbers.{numberOf, placeNumber, huesAfter, bestNumber, bestHues, bestChroma};
+ghost use Rattle.handing.specs.Numbers.{numberOf, placeNumber, huesAfter, gapAfter, bestNumber, bestHues, bestChroma};
 
 // What is given where there is no placement.
 const NO_PLACEMENT: u32 = 255;
@@ -35,8 +36,9 @@ pub fn fill_row(level: usize, cos: &[f32], sin: &[f32], row: &mut [f32]) -> u32
     number_of(gamut::fill_row(level, cos, sin, row))
 }
 
-// k hues at least `step` apart all round a ring of entries m, each with an entry of at least c: gives 0 with sixteen hues, 255
-// with zeros where there is no placement, or the number of a refusal, with the hues and the work buffer as before.
+// k hues at least `step` apart all round a ring of entries m, each with an entry of at least c: gives 0 with sixteen hues and the
+// smallest gap of the k in positions, 255 with zeros where there is no placement, or the number of a refusal, with the hues, the gap
+// and the work buffer as before.
 pub fn place(
     m: &[f32],
     c: f32,
@@ -44,8 +46,10 @@ pub fn place(
     step: usize,
     work: &mut [u16],
     hues: &mut [u16; 16],
+    tightest: &mut [usize; 1],
 ) -> u32
     ensures { λ r. ⌜ (r ≡ placeNumber (placementSays k step c (now (m .entry)) (length (now (work .entry))))) × (now (hues .exit) ≡ huesAfter (placementSays k step c (now (m .entry)) (length (now (work .entry)))) (now (hues .entry))) ⌝ }
+    ensures { λ r. ⌜ now (tightest .exit) ≡ gapAfter (placementSays k step c (now (m .entry)) (length (now (work .entry)))) (tightestBeside (length (now (m .entry))) k (placementSays k step c (now (m .entry)) (length (now (work .entry))))) (now (tightest .entry)) ⌝ }
     ensures { λ r. ⌜ ((w : ℕ) → placementSays k step c (now (m .entry)) (length (now (work .entry))) ≡ refused w → now (work .exit) ≡ now (work .entry)) ⌝ }
 {
     let found = placement::feasible(m, c, k, step, work);
@@ -54,10 +58,12 @@ pub fn place(
     match answer {
         Answer::Placed => {
             *hues = given;
+            *tightest = [found.tightest];
             0
         }
         Answer::Nowhere => {
             *hues = given;
+            *tightest = [found.tightest];
             NO_PLACEMENT
         }
         Answer::Refused(why) => why.number() as u32,
@@ -85,9 +91,21 @@ pub fn hand(chosen: Chosen, hues: &mut [u16; 16], chroma: &mut [f32; 1]) -> u32
     }
 }
 
-// The best chroma of two rows from a floor up, for k hues at least `step` apart all round: gives 0 with the chroma and sixteen
-// hues, 255 with zeros for hues and the chroma as before where there is none, or the number of a refusal, with the hues, the
-// chroma and the work buffer as before.
+// What a best hands over of the smallest gap: that of its hues, 0 where there is none; where it is refused the number is as before.
+fn hand_gap(chosen: Chosen, tightest: &mut [usize; 1])
+    ensures { λ _. ⌜ now (tightest .exit) ≡ gapAfter (answers (chosen .answer) (chosen .hues)) (chosen .tightest) (now (tightest .entry)) ⌝ }
+{
+    let answer = chosen.answer;
+    match answer {
+        pair::Answer::Found(_) => *tightest = [chosen.tightest],
+        pair::Answer::Nothing => *tightest = [chosen.tightest],
+        pair::Answer::Refused(_) => {}
+    }
+}
+
+// The best chroma of two rows from a floor up, for k hues at least `step` apart all round: gives 0 with the chroma, sixteen hues and
+// the smallest gap of the k in positions, 255 with zeros for hues and gap and the chroma as before where there is none, or the number
+// of a refusal, with the hues, the gap, the chroma and the work buffer as before.
 pub fn best(
     a: &[f32],
     b: &[f32],
@@ -96,14 +114,14 @@ pub fn best(
     floor: f32,
     work: &mut [u16],
     hues: &mut [u16; 16],
+    tightest: &mut [usize; 1],
     chroma: &mut [f32; 1],
 ) -> u32
     ensures { λ r. ⌜ (r ≡ bestNumber (pairSays k step floor (now (a .entry)) (now (b .entry)) (length (now (work .entry))))) × ((now (hues .exit) ≡ bestHues (pairSays k step floor (now (a .entry)) (now (b .entry)) (length (now (work .entry)))) (now (hues .entry))) × (now (chroma .exit) ≡ bestChroma (pairSays k step floor (now (a .entry)) (now (b .entry)) (length (now (work .entry)))) (now (chroma .entry)))) ⌝ }
+    ensures { λ r. ⌜ now (tightest .exit) ≡ gapAfter (pairSays k step floor (now (a .entry)) (now (b .entry)) (length (now (work .entry)))) (pair.tightestBeside (length (now (a .entry))) k (pairSays k step floor (now (a .entry)) (now (b .entry)) (length (now (work .entry))))) (now (tightest .entry)) ⌝ }
     ensures { λ r. ⌜ ((w : ℕ) → pairSays k step floor (now (a .entry)) (now (b .entry)) (length (now (work .entry))) ≡ refused w → now (work .exit) ≡ now (work .entry)) ⌝ }
 {
-    hand(
-        pair::best_for_levels(a, b, k, step, floor, work),
-        hues,
-        chroma,
-    )
+    let chosen = pair::best_for_levels(a, b, k, step, floor, work);
+    hand_gap(chosen, tightest);
+    hand(chosen, hues, chroma)
 }

@@ -88,6 +88,7 @@ pub fn search_in(table: &[f32], settings: Settings) -> Searched {
         position: 0,
         best: Best::None,
         hues: [0u16; 16],
+        tightest: 0,
     };
     let begun = numbered(search::start(settings, table, blank));
     if begun.number != 0 {

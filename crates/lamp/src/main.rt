@@ -1,7 +1,7 @@
 // A whole palette, from table to colours. Standard input says what is asked and gives the 720 directions; the program fills the
-// sRGB table, searches it with progress in lines, writes the page of the job for the service book, and the levels, hues and chroma
-// found with the limit beside the chroma; then, of that one design, what validation says of its sRGB colours at that chroma, and the
-// colours after back-off.
+// sRGB table, searches it with progress in lines, writes the page of the job for the service book, and the levels, hues, tightest
+// gap and chroma found with the limit beside the chroma; then, of that one design, what validation says of its sRGB colours at
+// that chroma, and the colours after back-off.
 mod book;
 mod colors;
 mod input;
@@ -60,7 +60,7 @@ fn finish(found: Job, cos: &[f32], sin: &[f32]) {
                 light,
                 hues,
             };
-            show::found(design, chroma);
+            show::found(design, found.tightest, chroma);
             show::limit(settings, chroma);
             derive(design, chroma, cos, sin);
             back_off(design, chroma, cos, sin);

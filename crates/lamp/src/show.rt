@@ -91,6 +91,15 @@ fn hue_lines(k: usize, hues: [u16; 16]) {
     }
 }
 
+// Writes the smallest gap of the hues round the circle, the closing one included: with one hue, the whole circle.
+fn gap_line(positions: usize) {
+    words::say(b"tightest gap ");
+    numbers::whole(positions as u64);
+    words::say(b" positions, ");
+    numbers::halves(positions as u64);
+    words::say(b" degrees\n");
+}
+
 // Writes how far apart the hues are that are meant, in half degrees.
 fn spacing(step: Stepping) {
     match step {
@@ -143,10 +152,11 @@ pub fn none(settings: Settings) {
 }
 
 // Writes what a search found.
-pub fn found(design: Design, chroma: f32) {
+pub fn found(design: Design, tightest: usize, chroma: f32) {
     let hues = design.hues;
     level_line(b"dark level ", design.dark);
     level_line(b"light level ", design.light);
     hue_lines(design.k, hues);
+    gap_line(tightest);
     float_line(b"chroma ", chroma);
 }

@@ -6,7 +6,7 @@ use mathlib.Core.List.{List, [], _∷_}
 use Prim.Native.Nat.{ℕ}
 use lib.Ieee.{Float, lt}
 use lib.ListN.{length}
-use Rattle.limits.specs.Answers.{value, refused, pass}
+use Rattle.limits.specs.Answers.{Said, value, refused, pass}
 use Rattle.limits.specs.Refusals.{number, checkSaid}
 use Rattle.limits.specs.Taken.{f32Of, hueCountTaken}
 use Rattle.limits.specs.declared.Refusal.{Refusal}
@@ -17,7 +17,7 @@ use Rattle.placement_rules.specs.declared.Stepping.{Stepping}
 use Rattle.placement_rules.specs.declared.Stepping.the-variants.{Is, Declined}
 use Rattle.placement_rules.specs.Placing.{stepFor, stepSaid, stepSays}
 use Rattle.pair_rules.specs.Rows.{leastRow, largest}
-use Rattle.pair_rules.specs.Pair.{Best, none, bestOver, lengthsTaken, alike, entriesTaken, rowsSay}
+use Rattle.pair_rules.specs.Pair.{Best, none, bestOver, lengthsTaken, alike, entriesTaken, rowsSay, tightestBeside}
 use Rattle.pair_rules.proofs.Rows.{least-long, least-of-one, least-taken}
 use Rattle.level_set_rules.specs.Set.{rowsAt, setOver, namedChecked, setChecked, setSays}
 use Rattle.level_set_rules.proofs.Accepted.{named-checks, in-words}
@@ -75,6 +75,10 @@ module _ (k step : ℕ) (t : List Float) (levels : List ℕ) (room : ℕ) (asked
 
   long : length least ≡ 720
   long = least-long rows ∙ ring k t levels room (asked .taken)
+
+  -- a smallest gap that goes by the row's length goes by the circle's
+  pub gap-round : (gap : ℕ) {x y : Said Best} → x ≡ y → gap ≡ tightestBeside (length row) k x → gap ≡ tightestBeside 720 k y
+  gap-round gap {x} e g = g ∙ ap (λ (n : ℕ). tightestBeside n k x) (ap length is ∙ long) ∙ ap (tightestBeside 720 k) e
 
   one-length : lengthsTaken (least ∷ []) ≡ true
   unfolding lengthsTaken alike

@@ -97,7 +97,7 @@ fn lower_all(table: &[f32], levels: &[usize], row: &mut [f32])
 // The best over levels that are taken.
 fn best(table: &[f32], levels: &[usize], k: usize, step: usize, work: &mut [u16]) -> Chosen
     requires { ⌜ Taken k step (now table) (now levels) (length (now work)) ⌝ }
-    ensures { λ r. ⌜ Gives r (value (setOver k (leastRow (rowsAt (now (table .entry)) (now (levels .entry)))))) ⌝ }
+    ensures { λ r. ⌜ Gives k r (value (setOver k (leastRow (rowsAt (now (table .entry)) (now (levels .entry)))))) ⌝ }
 {
     let mut row = [f32::from_bits(0x7f80_0000); 720];
     lower_all(table, levels, &mut row);
@@ -108,24 +108,26 @@ fn best(table: &[f32], levels: &[usize], k: usize, step: usize, work: &mut [u16]
     Chosen {
         answer: Answer::Nothing,
         hues: [0u16; 16],
+        tightest: 0,
     }
 }
 
 // A refusal.
 fn refuse(why: Refusal) -> Chosen
-    ensures { λ r. ⌜ Gives r (refused (number why)) ⌝ }
+    ensures { λ r. ⌜ ((k : ℕ) → Gives k r (refused (number why))) ⌝ }
 {
     Chosen {
         answer: Answer::Refused(why),
         hues: [0u16; 16],
+        tightest: 0,
     }
 }
 
 // The best chroma at which k hues, at least the step for k apart all round, have an entry of at least it at each level named, to within
-// 2^-15, by 30 halvings from 0; nothing where no hue has a value above 0. Indices may repeat. The work buffer's content is left free where
+// 2^-15, by 30 halvings from 0; nothing where no hue has a value above 0. With the hues comes their smallest gap round the circle. Indices may repeat. The work buffer's content is left free where
 // the call is accepted, and does not matter.
 pub fn best_for_level_set(table: &[f32], levels: &[usize], k: usize, work: &mut [u16]) -> Chosen
-    ensures { λ r. ⌜ Gives r (setSays k (now (table .entry)) (now (levels .entry)) (length (now (work .entry)))) ⌝ }
+    ensures { λ r. ⌜ Gives k r (setSays k (now (table .entry)) (now (levels .entry)) (length (now (work .entry)))) ⌝ }
     ensures { λ r. ⌜ ((w : ℕ) → setSays k (now (table .entry)) (now (levels .entry)) (length (now (work .entry))) ≡ refused w → now (work .exit) ≡ now (work .entry)) ⌝ }
 {
     let stepping = placement_checks::step_for(k);

@@ -14,7 +14,7 @@ use Rattle.gamut.specs.Table.{levelsIn, rowAt, tableTaken}
 use Rattle.placement_rules.specs.Placing.{stepFor, workNeeded}
 use Rattle.pair_rules.specs.declared.Chosen.{Chosen}
 use Rattle.pair_rules.specs.Rows.{leastRow, largest}
-use Rattle.pair_rules.specs.Pair.{Best, none, bestOver, entriesTaken, huesBeside, answers}
+use Rattle.pair_rules.specs.Pair.{Best, none, bestOver, entriesTaken, huesBeside, tightestBeside, answers}
 
 -- the rows of the levels that are named, in the order in which they are named
 abbrev pub rowsAt : List Float → List ℕ → List (List Float)
@@ -50,7 +50,8 @@ setChecked k t levels room good = cond (hueCountTaken k) (namedChecked t levels 
 unfoldable pub setSays : ℕ → List Float → List ℕ → ℕ → Said Best
 setSays k t levels room = setChecked k t levels room (value (setOver k (leastRow (rowsAt t levels))))
 
--- an answer with its sixteen hues hands back what is said
-pub record Gives (r : Chosen) (said : Said Best) : Type 0 where
+-- an answer with its sixteen hues, of which k are placed, and their smallest gap hands back what is said
+pub record Gives (k : ℕ) (r : Chosen) (said : Said Best) : Type 0 where
   pub says : answers (r .answer) (r .hues) ≡ said
   pub beside : r .hues ≡ huesBeside said
+  pub tightest-is : r .tightest ≡ tightestBeside 720 k said

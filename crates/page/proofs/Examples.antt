@@ -38,9 +38,9 @@ none : (gap : Float) → pageOf (begun (record { k = 7; gap = gap }) 169)
 unfolding pageOf linesOf lineWith aligned numeral digitsBefore
 none gap = refl
 
--- what the search of sRGB's table for two hues at gap 40 hands out: bits 4272d8d8, levels 49 and 131, hues 272 and 653
+-- what the search of sRGB's table for two hues at gap 40 hands out: bits 4272d8d8, levels 49 and 131, hues 272 and 653, 339 apart
 two : Job
-two = record { settings = record { k = 2; gap = f32Of 40 }; levels = 169; position = 28561; best = Found (ofBits binary32 1114822872) 49 131; hues = 272 ∷ 653 ∷ replicate 14 0 }
+two = record { settings = record { k = 2; gap = f32Of 40 }; levels = 169; position = 28561; best = Found (ofBits binary32 1114822872) 49 131; hues = 272 ∷ 653 ∷ replicate 14 0; tightest = 339 }
 
 found : pageOf two
     ≡ (104 ∷ 117 ∷ 101 ∷ 115 ∷ (replicate 35 32 ++ 50 ∷ 10 ∷ []))

@@ -5,6 +5,7 @@ use mathlib.Core.List.{List}
 use Prim.Native.Nat.{ℕ, suc, _+_, _-_, _≤_, _<_}
 use native.Mathlib.Omega.{arith}
 use lib.Ieee.{Float, binary32, toBits, lt}
+use lib.ListN.{length}
 use Rattle.limits.specs.Answers.{value, pass}
 use Rattle.limits.specs.Taken.{chromaTaken}
 use Rattle.limits.specs.Each.{F32}
@@ -16,7 +17,7 @@ use Rattle.halving.proofs.Range.{taken-up-to, up-to-taken}
 use Rattle.placement_rules.specs.declared.Answer.{Answer}
 use Rattle.placement_rules.specs.declared.Answer.the-variants.{Placed, Nowhere, Refused}
 use Rattle.placement_rules.specs.Ring.{Places, nowhere, placed}
-use Rattle.placement_rules.specs.Placing.{sixteen, checked, placementSays, answers, isPlaced}
+use Rattle.placement_rules.specs.Placing.{sixteen, checked, placementSays, tightestBeside, answers, isPlaced}
 use Rattle.placement_rules.proofs.Checking.{row-passes, accepted-says, at-chroma}
 use Rattle.pair_rules.specs.Rows.{largest}
 use Rattle.pair_rules.specs.Pair.{none, found, placedAt, some, placeable, bestOver}
@@ -43,13 +44,18 @@ module _ (k step : ℕ) (row : List Float) (room : ℕ) (d : Float) (fine : chec
   unfolding chromaTaken
   taken = at-chroma k step d row room c (up-to-taken 200 c (omega arith) (met .up-to)) fine
 
-  said : answers a hues ≡ value (sixteen (placedAt k step row c))
+  accepted : placementSays k step c row room ≡ value (sixteen (placedAt k step row c))
   unfolding placedAt
-  said = says ∙ accepted-says k step c row room taken
+  accepted = accepted-says k step c row room taken
 
-  pub placed-at : isPlaced a ≡ true → There k step row c hues
+  said : answers a hues ≡ value (sixteen (placedAt k step row c))
+  said = says ∙ accepted
+
+  pub placed-at : (gap : ℕ) → gap ≡ tightestBeside (length row) k (placementSays k step c row room) → isPlaced a ≡ true → There k step row c hues gap
   unfolding placeable
-  placed-at t = let p = is-some a hues (placedAt k step row c) t said in record { passes = p .0; beside = p .1 }
+  placed-at gap g t =
+      let p = is-some a hues (placedAt k step row c) t said in
+      record { passes = p .0; beside = p .1; tightest-is = g ∙ ap (tightestBeside (length row) k) (accepted ∙ ap value (p .1)) }
 
   pub not-placed-at : isPlaced a ≡ false → placeable k step row c ≡ false
   unfolding placeable
@@ -64,7 +70,7 @@ module _ {k step : ℕ} {row : List Float} {room : ℕ} {at : Bracket} (s : Stan
   mid-met = midpoint-met (s .low) (s .high)
 
   -- the midpoint is the lower end
-  pub at-low : toBits binary32 mid ≡ toBits binary32 (at .lo) → Turned k step row at (record { lo = at .lo; hi = at .hi; hues = at .hues; still = true })
+  pub at-low : toBits binary32 mid ≡ toBits binary32 (at .lo) → Turned k step row at (record { lo = at .lo; hi = at .hi; hues = at .hues; tightest = at .tightest; still = true })
   at-low b = record {
     there = s .there;
     low = s .low;
@@ -74,8 +80,8 @@ module _ {k step : ℕ} {row : List Float} {room : ℕ} {at : Bracket} (s : Stan
   }
 
   -- hues are placed at the midpoint
-  pub up : (new : List ℕ) → There k step row mid new → Turned k step row at (record { lo = mid; hi = at .hi; hues = new; still = false })
-  up new t = record {
+  pub up : (new : List ℕ) (gap : ℕ) → There k step row mid new gap → Turned k step row at (record { lo = mid; hi = at .hi; hues = new; tightest = gap; still = false })
+  up new gap t = record {
     there = t;
     low = mid-met;
     high = s .high;
@@ -84,7 +90,7 @@ module _ {k step : ℕ} {row : List Float} {room : ℕ} {at : Bracket} (s : Stan
   }
 
   -- none are: the midpoint may be the upper end
-  pub down : (still : Bool) → (still ≡ true → toBits binary32 mid ≡ toBits binary32 (at .hi)) → placeable k step row mid ≡ false → Turned k step row at (record { lo = at .lo; hi = mid; hues = at .hues; still = still })
+  pub down : (still : Bool) → (still ≡ true → toBits binary32 mid ≡ toBits binary32 (at .hi)) → placeable k step row mid ≡ false → Turned k step row at (record { lo = at .lo; hi = mid; hues = at .hues; tightest = at .tightest; still = still })
   down still high f = record {
     there = s .there;
     low = s .low;
@@ -114,8 +120,8 @@ module _ {k step : ℕ} {row : List Float} {room : ℕ} {floor most : Float} (re
   pub most-met : F32 most → Met most
   most-met u = record { up-to = rw (ready .top) (largest-up-to row (row-passes k step floor row room (ready .fine) .4)); f32 = u }
 
-  pub begin : (hues : List ℕ) → Met floor → Met most → There k step row floor hues → Climbed k step row room floor most (record { lo = floor; hi = most; hues = hues; still = false }) 0
-  begin hues l h t = record { stands = record { fine = ready .fine; there = t; low = l; high = h }; rest = λ (e : false ≡ false). refl; ended = λ (e : false ≡ true). never e }
+  pub begin : (hues : List ℕ) (gap : ℕ) → Met floor → Met most → There k step row floor hues gap → Climbed k step row room floor most (record { lo = floor; hi = most; hues = hues; tightest = gap; still = false }) 0
+  begin hues gap l h t = record { stands = record { fine = ready .fine; there = t; low = l; high = h }; rest = λ (e : false ≡ false). refl; ended = λ (e : false ≡ true). never e }
 
   module _ {at : Bracket} {i : ℕ} (s : Climbed k step row room floor most at i) where
     -- one round on

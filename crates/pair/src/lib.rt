@@ -5,20 +5,22 @@ pub use pair_rules::Chosen;
 ghost use mathlib.Core.Path.{_≡_};
 ghost use mathlib.Core.List.{[], _∷_};
 ghost use Prim.Native.Nat.{ℕ};
-ghost use lib.ListN.{length};
+ghost use lib.ListN.{length, take};
 ghost use Rattle.limits.specs.Answers.{value, refused};
 ghost use Rattle.limits.specs.Refusals.{checkSaid};
+ghost use Rattle.placement_rules.specs.Gaps.{tightest};
 ghost use Rattle.pair_rules.specs.Rows.{leastRow, largest};
-ghost use Rattle.pair_rules.specs.Pair.{none, found, bestOver, rowsChecked, rowsSay, pairSays, huesBeside, answers};
+ghost use Rattle.pair_rules.specs.Pair.{none, found, bestOver, rowsChecked, rowsSay, pairSays, huesBeside, tightestBeside, answers};
 ghost use Rattle.pair.specs.Inner.{Taken, Lent, Ready, There, Stands, Turned, Gives};
 
 // Nothing is found.
 fn nothing() -> Chosen
-    ensures { λ r. ⌜ Gives r none ⌝ }
+    ensures { λ r. ⌜ ((n k : ℕ) → Gives n k r none) ⌝ }
 {
     Chosen {
         answer: Answer::Nothing,
         hues: [0u16; 16],
+        tightest: 0,
     }
 }
 
@@ -57,13 +59,14 @@ fn lesser_row(a: &[f32], b: &[f32], row: &mut [f32]) -> f32
     most
 }
 
-// A chroma with its hues.
-fn found(chroma: f32, hues: [u16; 16]) -> Chosen
-    ensures { λ r. ⌜ Gives r (found chroma hues) ⌝ }
+// A chroma with its hues, of which the smallest gap is `apart`.
+fn found(chroma: f32, hues: [u16; 16], apart: usize) -> Chosen
+    ensures { λ r. ⌜ ((n k : ℕ) → apart ≡ tightest n (take k hues) → Gives n k r (found chroma hues)) ⌝ }
 {
     Chosen {
         answer: Answer::Found(chroma),
         hues,
+        tightest: apart,
     }
 }
 
@@ -72,8 +75,9 @@ struct Bracket {
     // the ends
     lo: f32,
     hi: f32,
-    // the hues that are placed at the lower one
+    // the hues that are placed at the lower one, and their smallest gap
     hues: [u16; 16],
+    tightest: usize,
     // whether all rounds that are left would change nothing
     still: bool,
 }
@@ -86,12 +90,14 @@ fn turn(row: &[f32], k: usize, step: usize, at: Bracket, work: &mut [u16]) -> Br
     let lo = at.lo;
     let hi = at.hi;
     let hues = at.hues;
+    let tightest = at.tightest;
     let mid = halving::midpoint(lo, hi);
     if f32::to_bits(mid) == f32::to_bits(lo) {
         return Bracket {
             lo,
             hi,
             hues,
+            tightest,
             still: true,
         };
     }
@@ -103,6 +109,7 @@ fn turn(row: &[f32], k: usize, step: usize, at: Bracket, work: &mut [u16]) -> Br
             lo: mid,
             hi,
             hues: placed,
+            tightest: tried.tightest,
             still: false,
         };
     }
@@ -111,11 +118,12 @@ fn turn(row: &[f32], k: usize, step: usize, at: Bracket, work: &mut [u16]) -> Br
         lo,
         hi: mid,
         hues,
+        tightest,
         still,
     }
 }
 
-// The best from a floor at which these hues are placed.
+// The best from a floor at which these hues are placed, of which the smallest gap is `apart`.
 fn rounds(
     row: &[f32],
     k: usize,
@@ -123,15 +131,17 @@ fn rounds(
     floor: f32,
     most: f32,
     hues: [u16; 16],
+    apart: usize,
     work: &mut [u16],
 ) -> Chosen
-    requires { ⌜ Ready k step floor most (now row) (length (now work)) × There k step (now row) floor hues ⌝ }
-    ensures { λ r. ⌜ Gives r (bestOver k step floor (now (row .entry))) ⌝ }
+    requires { ⌜ Ready k step floor most (now row) (length (now work)) × There k step (now row) floor hues apart ⌝ }
+    ensures { λ r. ⌜ Gives (length (now (row .entry))) k r (bestOver k step floor (now (row .entry))) ⌝ }
 {
     let mut at = Bracket {
         lo: floor,
         hi: most,
         hues,
+        tightest: apart,
         still: false,
     };
     let mut i: u32 = 0;
@@ -140,13 +150,13 @@ fn rounds(
         i += 1;
     }
     let last = at.hues;
-    found(at.lo, last)
+    found(at.lo, last, at.tightest)
 }
 
 // The best over a row of values whose largest is `most`, from a floor.
 fn climb(row: &[f32], k: usize, step: usize, floor: f32, most: f32, work: &mut [u16]) -> Chosen
     requires { ⌜ Ready k step floor most (now row) (length (now work)) ⌝ }
-    ensures { λ r. ⌜ Gives r (bestOver k step floor (now (row .entry))) ⌝ }
+    ensures { λ r. ⌜ Gives (length (now (row .entry))) k r (bestOver k step floor (now (row .entry))) ⌝ }
 {
     let first = placement::feasible(row, floor, k, step, work);
     let answer = first.answer;
@@ -154,13 +164,13 @@ fn climb(row: &[f32], k: usize, step: usize, floor: f32, most: f32, work: &mut [
         return nothing();
     }
     let hues = first.hues;
-    rounds(row, k, step, floor, most, hues, work)
+    rounds(row, k, step, floor, most, hues, first.tightest, work)
 }
 
 // The same, where the largest may be below the floor.
 fn from_floor(row: &[f32], k: usize, step: usize, floor: f32, most: f32, work: &mut [u16]) -> Chosen
     requires { ⌜ Lent k step floor most (now row) (length (now work)) ⌝ }
-    ensures { λ r. ⌜ Gives r (bestOver k step floor (now (row .entry))) ⌝ }
+    ensures { λ r. ⌜ Gives (length (now (row .entry))) k r (bestOver k step floor (now (row .entry))) ⌝ }
 {
     if most < floor {
         return nothing();
@@ -171,7 +181,7 @@ fn from_floor(row: &[f32], k: usize, step: usize, floor: f32, most: f32, work: &
 // The best of two rows that are taken.
 fn best(a: &[f32], b: &[f32], k: usize, step: usize, floor: f32, work: &mut [u16]) -> Chosen
     requires { ⌜ Taken k step floor (now a ∷ now b ∷ []) (length (now work)) ⌝ }
-    ensures { λ r. ⌜ Gives r (bestOver k step floor (leastRow (now (a .entry) ∷ now (b .entry) ∷ []))) ⌝ }
+    ensures { λ r. ⌜ Gives (length (now (a .entry))) k r (bestOver k step floor (leastRow (now (a .entry) ∷ now (b .entry) ∷ []))) ⌝ }
 {
     let mut least = [0.0f32; 720];
     let n = a.len();
@@ -180,7 +190,8 @@ fn best(a: &[f32], b: &[f32], k: usize, step: usize, floor: f32, work: &mut [u16
 }
 
 // The best chroma from a floor up at which k hues, at least `step` apart all round, have an entry of at least it in both rows, by
-// 30 halvings. The work buffer's content is left free where the call is accepted, and does not matter.
+// 30 halvings; with its hues comes their smallest gap round the ring. The work buffer's content is left free where the call is
+// accepted, and does not matter.
 pub fn best_for_levels(
     a: &[f32],
     b: &[f32],
@@ -190,6 +201,7 @@ pub fn best_for_levels(
     work: &mut [u16],
 ) -> Chosen
     ensures { λ r. ⌜ (answers (r .answer) (r .hues) ≡ pairSays k step floor (now (a .entry)) (now (b .entry)) (length (now (work .entry)))) × (r .hues ≡ huesBeside (pairSays k step floor (now (a .entry)) (now (b .entry)) (length (now (work .entry))))) ⌝ }
+    ensures { λ r. ⌜ r .tightest ≡ tightestBeside (length (now (a .entry))) k (pairSays k step floor (now (a .entry)) (now (b .entry)) (length (now (work .entry)))) ⌝ }
     ensures { λ r. ⌜ ((w : ℕ) → pairSays k step floor (now (a .entry)) (now (b .entry)) (length (now (work .entry))) ≡ refused w → now (work .exit) ≡ now (work .entry)) ⌝ }
 {
     let checked = check(a, b, floor, k, step, work.len());
@@ -197,6 +209,7 @@ pub fn best_for_levels(
         Checked::Wrong(why) => Chosen {
             answer: Answer::Refused(why),
             hues: [0u16; 16],
+            tightest: 0,
         },
         Checked::Fine => best(a, b, k, step, floor, work),
     }
@@ -222,6 +235,7 @@ pub fn largest(row: &[f32]) -> f32
 // content is left free where the call is accepted, and does not matter.
 pub fn best_for_row(row: &[f32], k: usize, step: usize, floor: f32, work: &mut [u16]) -> Chosen
     ensures { λ r. ⌜ (answers (r .answer) (r .hues) ≡ rowsSay k step floor (now (row .entry) ∷ []) (length (now (work .entry)))) × (r .hues ≡ huesBeside (rowsSay k step floor (now (row .entry) ∷ []) (length (now (work .entry))))) ⌝ }
+    ensures { λ r. ⌜ r .tightest ≡ tightestBeside (length (now (row .entry))) k (rowsSay k step floor (now (row .entry) ∷ []) (length (now (work .entry)))) ⌝ }
     ensures { λ r. ⌜ ((w : ℕ) → rowsSay k step floor (now (row .entry) ∷ []) (length (now (work .entry))) ≡ refused w → now (work .exit) ≡ now (work .entry)) ⌝ }
 {
     let checked = placement_checks::check(row, floor, k, step, work.len());
@@ -229,6 +243,7 @@ pub fn best_for_row(row: &[f32], k: usize, step: usize, floor: f32, work: &mut [
         Checked::Wrong(refusal) => Chosen {
             answer: Answer::Refused(refusal),
             hues: [0u16; 16],
+            tightest: 0,
         },
         Checked::Fine => from_floor(row, k, step, floor, largest(row), work),
     }

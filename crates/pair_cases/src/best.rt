@@ -12,7 +12,7 @@ use pair::Answer;
 fn same_answer(answer: Answer, words: [u32; 24], found: bool) -> bool {
     let number = word_at(words, 4);
     match answer {
-        Answer::Found(chroma) => number == 0 && found && same_at(chroma, words, 5),
+        Answer::Found(chroma) => number == 0 && found && same_at(chroma, words, 6),
         Answer::Nothing => number == 0 && !found,
         Answer::Refused(why) => number == why.number() as u32,
     }
@@ -48,7 +48,9 @@ fn same_best(
             return false;
         }
     }
-    same_answer(answer, words, 5 < count) && hues::same(given, words, 6, count)
+    same_answer(answer, words, 6 < count)
+        && chosen.tightest == size_at(words, 5)
+        && hues::same(given, words, 7, count)
 }
 
 // Whether it is in a work buffer of the length that the words say, over rows of these lengths.
@@ -76,10 +78,10 @@ fn same_in(
 
 // Whether a pair has as many hues as it may: none, or k after a chroma where it is not refused.
 fn is_whole(words: [u32; 24], count: usize) -> bool {
-    if 6 < count {
-        return word_at(words, 4) == 0 && count - 6 == size_at(words, 0);
+    if 7 < count {
+        return word_at(words, 4) == 0 && count - 7 == size_at(words, 0);
     }
-    count == 5
+    count == 6
 }
 
 // Whether the best of a pair is what the words of the line with this number say.

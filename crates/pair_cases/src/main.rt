@@ -1,8 +1,8 @@
-// Replays a list of pair cases, read from standard input, against the crate `pair`, and compares each answer: its kind, the
-// bits of its chroma, and all of its sixteen hues. It writes the numbers of the first lines that differ with their operations,
-// then how many lines of each operation there are, and at last how many cases were compared, how many of them were wrong on
-// purpose and found so, and how many lines differ. A line that a list may not have differs too, and so does a refused call
-// that leaves a work buffer changed.
+// Replays a list of pair cases, read from standard input, against the crate `pair`, and compares each answer: its kind, its
+// tightest gap, the bits of its chroma, and all of its sixteen hues. It writes the numbers of the first lines that differ with
+// their operations, then how many lines of each operation there are, and at last how many cases were compared, how many of
+// them were wrong on purpose and found so, and how many lines differ. A line that a list may not have differs too, and so does
+// a refused call that leaves a work buffer changed.
 mod best;
 mod operations;
 mod rows;

@@ -10,8 +10,8 @@ pub const MORE: u64 = 0x6d6f_7265;
 // same w i n e: n entries of row w, from i on, are all this one
 pub const SAME: u64 = 0x7361_6d65;
 
-// best k step floor room number chroma h ..: `best_for_levels` with a work buffer of this length: the number of its
-// refusal, or 0, the chroma and the k hues, or 0 alone where nothing is found
+// best k step floor room number tightest chroma h ..: `best_for_levels` with a work buffer of this length: the number of its
+// refusal or 0, the tightest gap, which is 0 where nothing is found, and the chroma and the k hues where something is
 const BEST: u64 = 0x6265_7374;
 
 // How many operations there are.
@@ -24,10 +24,10 @@ pub const FIRST_CASE: usize = 3;
 pub const NAMES: [u64; 4] = [ROW, MORE, SAME, BEST];
 
 // How many words each of them has at least.
-const FEWEST: [usize; 4] = [2, 3, 4, 5];
+const FEWEST: [usize; 4] = [2, 3, 4, 6];
 
 // How many words each of them has at most.
-const MOST: [usize; 4] = [2, 24, 4, 22];
+const MOST: [usize; 4] = [2, 24, 4, 23];
 
 // The place of an operation among all, or their number where there is no such operation.
 pub fn place_of(operation: u64) -> usize {

@@ -6,12 +6,13 @@ use mathlib.Core.Bool.{Bool, true, false, _&&_, cond}
 use mathlib.Core.List.{List, [], _∷_}
 use lib.Dec.{leb, eqb}
 use lib.Ieee.{Float, lt}
-use lib.ListN.{length, replicate}
+use lib.ListN.{length, take, replicate}
 use Rattle.limits.specs.Answers.{Said, value, refused}
 use Rattle.limits.specs.Refusals.{number}
 use Rattle.limits.specs.Taken.{entryTaken, every}
 use Rattle.halving.specs.Midpoint.{halve}
 use Rattle.placement_rules.specs.Ring.{Places, nowhere, placed, placement}
+use Rattle.placement_rules.specs.Gaps.{tightest}
 use Rattle.placement_rules.specs.Placing.{allowedAt, sixteen, checkedRing}
 use Rattle.pair_rules.specs.declared.Answer.{Answer}
 use Rattle.pair_rules.specs.declared.Answer.the-variants.{Found, Nothing, Refused}
@@ -75,6 +76,12 @@ abbrev pub huesBeside : Said Best → List ℕ
 huesBeside (value none) = replicate 16 0
 huesBeside (value (found c hues)) = hues
 huesBeside (refused n) = replicate 16 0
+
+-- Req 07: the smallest gap of the k hues beside the last chroma placed, on a ring of n; 0 where it is none or a refusal
+abbrev pub tightestBeside : ℕ → ℕ → Said Best → ℕ
+tightestBeside n k (value none) = 0
+tightestBeside n k (value (found c hues)) = tightest n (take k hues)
+tightestBeside n k (refused w) = 0
 
 -- what an answer hands back, with the hues that stand beside it
 abbrev pub answers : Answer → List ℕ → Said Best

@@ -16,4 +16,6 @@ pub enum Answer {
 pub struct Chosen {
     pub answer: Answer,
     pub hues: [u16; 16],
+    // the smallest gap of the hues round the ring, in positions, the closing one included; 0 where nothing is found
+    pub tightest: usize,
 }

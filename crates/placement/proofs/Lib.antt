@@ -1,4 +1,5 @@
 pub mod Table
 pub mod Placing
+pub mod Gaps
 pub mod First
 pub mod Checking

@@ -9,7 +9,7 @@ use lib.ListN.{length, getD}
 use Rattle.limits.specs.Answers.{value}
 use Rattle.placement_rules.specs.declared.Placement.{Placement}
 use Rattle.placement_rules.specs.Ring.{Places, earliest}
-use Rattle.placement_rules.specs.Placing.{allowedAt, sixteen, huesBeside, answers}
+use Rattle.placement_rules.specs.Placing.{allowedAt, sixteen, huesBeside, tightestBeside, answers}
 
 -- arguments that are taken
 pub record Asked (row : List Float) (k step : ℕ) : Type 0 where
@@ -37,7 +37,15 @@ pub record FillAsked (row : List Float) (c : Float) (first : ℕ) (work : List �
   pub there : first < length row
   pub long : length row ≤ length work
 
--- an answer with its hues gives these places
-pub record Gives (r : Placement) (places : Places) : Type 0 where
+-- what a smallest gap asks: k hues below the length of a ring
+pub record GapsAsked (n k : ℕ) (hues : List ℕ) : Type 0 where
+  pub some-hue : 1 ≤ k
+  pub few-hues : k ≤ 16
+  pub short : n ≤ 720
+  pub within : (p : ℕ) → p < k → getD hues p 0 < n
+
+-- an answer with its hues and their smallest gap gives these places, of k on a ring of n
+pub record Gives (n k : ℕ) (r : Placement) (places : Places) : Type 0 where
   pub says : answers (r .answer) (r .hues) ≡ value (sixteen places)
   pub beside : r .hues ≡ huesBeside (value (sixteen places))
+  pub tightest-is : r .tightest ≡ tightestBeside n k (value (sixteen places))

@@ -3,20 +3,64 @@ use limits::Checked;
 pub use placement_rules::Answer;
 pub use placement_rules::Placement;
 ghost use mathlib.Core.Path.{_≡_};
-ghost use Prim.Native.Nat.{ℕ, _+_, _%_, _≤_, _<_};
-ghost use lib.ListN.{length};
+ghost use Prim.Native.Nat.{ℕ, _+_, _%_, _≤_, _<_, min};
+ghost use lib.ListN.{length, take};
 ghost use Rattle.limits.specs.Answers.{refused};
-ghost use Rattle.placement_rules.specs.Ring.{nowhere, earliest, reduced, fromStart, placement};
-ghost use Rattle.placement_rules.specs.Placing.{allowedAt, placementSays, huesBeside, answers, isPlaced};
-ghost use Rattle.placement.specs.Inner.{Asked, firstAllowed, Filled, FillAsked, Gives};
+ghost use Rattle.placement_rules.specs.Ring.{Places, nowhere, placed, earliest, reduced, fromStart, placement};
+ghost use Rattle.placement_rules.specs.Gaps.{around, tightest};
+ghost use Rattle.placement_rules.specs.Placing.{allowedAt, sixteen, placementSays, huesBeside, tightestBeside, answers, isPlaced};
+ghost use Rattle.placement.specs.Inner.{Asked, firstAllowed, Filled, FillAsked, GapsAsked, Gives};
 
 // Nothing is placed.
 fn nowhere() -> Placement
-    ensures { λ r. ⌜ Gives r nowhere ⌝ }
+    ensures { λ r. ⌜ ((n k : ℕ) → Gives n k r nowhere) ⌝ }
 {
     Placement {
         answer: Answer::Nowhere,
         hues: [0u16; 16],
+        tightest: 0,
+    }
+}
+
+// How far an index lies on from another round a ring.
+fn around(n: usize, i: u16, j: u16) -> usize
+    requires { ⌜ (n ≤ 720) × (i < n) ⌝ }
+    ensures { λ r. ⌜ r ≡ around n i j ⌝ }
+{
+    if i < j { (j - i) as usize } else { n + j as usize - i as usize }
+}
+
+// The smaller of two numbers.
+fn smaller(x: usize, y: usize) -> usize
+    ensures { λ r. ⌜ r ≡ min x y ⌝ }
+{
+    if x < y { x } else { y }
+}
+
+// The smallest gap of the first k hues round a ring, from the last of them on: from it back to the first, then from each one before
+// it to the next.
+fn tightest(n: usize, k: usize, hues: [u16; 16]) -> usize
+    requires { ⌜ GapsAsked n k hues ⌝ }
+    ensures { λ r. ⌜ r ≡ tightest n (take k hues) ⌝ }
+{
+    let mut at = k - 1;
+    let mut least = around(n, hues[at], hues[0]);
+    while 0 < at {
+        at -= 1;
+        least = smaller(around(n, hues[at], hues[at + 1]), least);
+    }
+    least
+}
+
+// These hues are placed.
+fn placed(n: usize, k: usize, hues: [u16; 16]) -> Placement
+    requires { ⌜ GapsAsked n k hues ⌝ }
+    ensures { λ r. ⌜ ((p : Places) → sixteen p ≡ placed hues → Gives n k r p) ⌝ }
+{
+    Placement {
+        answer: Answer::Placed,
+        hues,
+        tightest: tightest(n, k, hues),
     }
 }
 
@@ -76,7 +120,7 @@ fn reduce(j: usize, n: usize) -> u16
 // k indices from a start, each the earliest allowed at least `step` further on, by the table of earliest allowed indices.
 fn place_from(m: &[f32], c: f32, next: &[u16], k: usize, step: usize, start: usize) -> Placement
     requires { ⌜ Asked (now m) k step × (Filled (now m) c 0 (now next) × (start < length (now m))) ⌝ }
-    ensures { λ r. ⌜ Gives r (reduced (length (now (m .entry))) (fromStart (allowedAt (now (m .entry)) c) (length (now (m .entry))) k step start)) ⌝ }
+    ensures { λ r. ⌜ Gives (length (now (m .entry))) k r (reduced (length (now (m .entry))) (fromStart (allowedAt (now (m .entry)) c) (length (now (m .entry))) k step start)) ⌝ }
 {
     if !(c <= m[start]) {
         return nowhere();
@@ -103,16 +147,13 @@ fn place_from(m: &[f32], c: f32, next: &[u16], k: usize, step: usize, start: usi
     if stop - cur < step {
         return nowhere();
     }
-    Placement {
-        answer: Answer::Placed,
-        hues,
-    }
+    placed(n, k, hues)
 }
 
 // The first start that succeeds. A start from which k - 1 steps would reach past the ring's end is not tried.
 fn first_start(m: &[f32], c: f32, next: &[u16], k: usize, step: usize) -> Placement
     requires { ⌜ Asked (now m) k step × Filled (now m) c 0 (now next) ⌝ }
-    ensures { λ r. ⌜ Gives r (placement (allowedAt (now (m .entry)) c) (length (now (m .entry))) k step) ⌝ }
+    ensures { λ r. ⌜ Gives (length (now (m .entry))) k r (placement (allowedAt (now (m .entry)) c) (length (now (m .entry))) k step) ⌝ }
 {
     let reach = (k - 1) * step;
     let mut s: usize = 0;
@@ -141,7 +182,7 @@ pub fn is_placed(answer: Answer) -> bool
 // The placement on a ring whose arguments are taken.
 fn place(m: &[f32], c: f32, k: usize, step: usize, work: &mut [u16]) -> Placement
     requires { ⌜ Asked (now m) k step × (length (now m) ≤ length (now work)) ⌝ }
-    ensures { λ r. ⌜ Gives r (placement (allowedAt (now (m .entry)) c) (length (now (m .entry))) k step) ⌝ }
+    ensures { λ r. ⌜ Gives (length (now (m .entry))) k r (placement (allowedAt (now (m .entry)) c) (length (now (m .entry))) k step) ⌝ }
 {
     let first = first_allowed(m, c);
     if first == 65535 {
@@ -151,10 +192,11 @@ fn place(m: &[f32], c: f32, k: usize, step: usize, work: &mut [u16]) -> Placemen
     first_start(m, c, work, k, step)
 }
 
-// k hues at least `step` apart all round a ring, each with an entry of at least c: the first placement, or none. The work
-// buffer's content is left free where the call is accepted, and does not matter.
+// k hues at least `step` apart all round a ring, each with an entry of at least c: the first placement, with its smallest gap
+// round the ring, or none. The work buffer's content is left free where the call is accepted, and does not matter.
 pub fn feasible(m: &[f32], c: f32, k: usize, step: usize, work: &mut [u16]) -> Placement
     ensures { λ r. ⌜ (answers (r .answer) (r .hues) ≡ placementSays k step c (now (m .entry)) (length (now (work .entry)))) × (r .hues ≡ huesBeside (placementSays k step c (now (m .entry)) (length (now (work .entry))))) ⌝ }
+    ensures { λ r. ⌜ r .tightest ≡ tightestBeside (length (now (m .entry))) k (placementSays k step c (now (m .entry)) (length (now (work .entry)))) ⌝ }
     ensures { λ r. ⌜ ((w : ℕ) → placementSays k step c (now (m .entry)) (length (now (work .entry))) ≡ refused w → now (work .exit) ≡ now (work .entry)) ⌝ }
 {
     let checked = placement_checks::check(m, c, k, step, work.len());
@@ -162,6 +204,7 @@ pub fn feasible(m: &[f32], c: f32, k: usize, step: usize, work: &mut [u16]) -> P
         Checked::Wrong(why) => Placement {
             answer: Answer::Refused(why),
             hues: [0u16; 16],
+            tightest: 0,
         },
         Checked::Fine => place(m, c, k, step, work),
     }

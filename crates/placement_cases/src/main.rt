@@ -1,8 +1,8 @@
 // Replays a list of placement cases, read from standard input, against the crate `placement`, and compares each step,
-// each answer with all of its sixteen hues, and each sweep by its digest. It writes the numbers of the first lines that
-// differ with their operations, then how many lines of each operation there are, and at last how many cases were
-// compared, how many of them were wrong on purpose and found so, and how many lines differ. A line that a list may not
-// have differs too, and so does a refused placement that leaves a work buffer changed.
+// each answer with its tightest gap and all of its sixteen hues, and each sweep by its digest. It writes the numbers of
+// the first lines that differ with their operations, then how many lines of each operation there are, and at last how
+// many cases were compared, how many of them were wrong on purpose and found so, and how many lines differ. A line that
+// a list may not have differs too, and so does a refused placement that leaves a work buffer changed.
 mod operations;
 mod places;
 mod sweeps;

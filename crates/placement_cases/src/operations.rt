@@ -10,8 +10,8 @@ pub const MORE: u64 = 0x6d6f_7265;
 // step k number s: `step_for`, with the number of its refusal and 0, or 0 and the step
 pub const STEP: u64 = 0x7374_6570;
 
-// place k step c room number h ..: `feasible` with a work buffer of this length: the number of its refusal, or 0 and
-// the k hues, or 0 alone where nothing is placed
+// place k step c room number tightest h ..: `feasible` with a work buffer of this length: the number of its refusal or 0,
+// the tightest gap, which is 0 where nothing is placed, and the k hues where something is
 pub const PLACE: u64 = 0x70_6c61_6365;
 
 // sweep hi lo c ..: the digest of `feasible` for each k, each spacing and each of these chromas
@@ -27,10 +27,10 @@ pub const FIRST_CASE: usize = 2;
 pub const NAMES: [u64; 5] = [RING, MORE, STEP, PLACE, SWEEP];
 
 // How many words each of them has at least.
-const FEWEST: [usize; 5] = [1, 2, 3, 5, 3];
+const FEWEST: [usize; 5] = [1, 2, 3, 6, 3];
 
 // How many words each of them has at most.
-const MOST: [usize; 5] = [24, 24, 3, 21, 24];
+const MOST: [usize; 5] = [24, 24, 3, 22, 24];
 
 // The place of an operation among all, or their number where there is no such operation.
 pub fn place_of(operation: u64) -> usize {

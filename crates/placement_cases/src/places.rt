@@ -48,7 +48,9 @@ fn same_place(words: [u32; 24], count: usize, seed: u32, m: &[f32], work: &mut [
             return false;
         }
     }
-    same_answer(answer, word_at(words, 4), 5 < count) && hues::same(given, words, 5, count)
+    same_answer(answer, word_at(words, 4), 6 < count)
+        && found.tightest == size_at(words, 5)
+        && hues::same(given, words, 6, count)
 }
 
 // Whether it is in a work buffer of the length that the words say, on a ring of this length.
@@ -70,8 +72,8 @@ pub fn is_whole(words: [u32; 24], count: usize) -> bool {
     if 2400 < word_at(words, 3) {
         return false;
     }
-    if 5 < count {
-        return word_at(words, 4) == 0 && count - 5 == size_at(words, 0);
+    if 6 < count {
+        return word_at(words, 4) == 0 && count - 6 == size_at(words, 0);
     }
-    count == 5
+    count == 6
 }

@@ -1,7 +1,7 @@
 // Sweeps: every placement on a ring, held to one digest. The digest goes over each hue count from 1 to 16, for it over
 // each spacing from 1 to the ring's length, and for both over the chromas of the line. Each answer gives a byte: 0 for
 // none, 255 for a placement, the number of a refusal, or 254 for one that left its work buffer changed. Sixteen hues
-// follow, two bytes each, the low one first.
+// and the tightest gap follow, two bytes each, the low one first.
 use crate::places;
 use case_words::digest;
 use case_words::entries::Row;
@@ -25,6 +25,14 @@ fn byte_of(answer: Answer) -> u32 {
     }
 }
 
+// A digest with a tightest gap, which counts as the greatest pair of bytes where it is greater.
+fn with_tightest(sum: u64, gap: usize) -> u64 {
+    if gap < 0xffff {
+        return digest::with_pair(sum, gap as u16);
+    }
+    digest::with_pair(sum, 0xffff)
+}
+
 // With one placement.
 fn with_place(sum: Sum, m: &[f32], c: f32, k: usize, step: usize, work: &mut [u16]) -> Sum {
     let seed = sum.seed;
@@ -38,8 +46,9 @@ fn with_place(sum: Sum, m: &[f32], c: f32, k: usize, step: usize, work: &mut [u1
             byte = 254;
         }
     }
+    let placed = digest::with_hues(digest::with_byte(sum.digest, byte), hues);
     Sum {
-        digest: digest::with_hues(digest::with_byte(sum.digest, byte), hues),
+        digest: with_tightest(placed, found.tightest),
         seed: rubbish::stirred(seed),
     }
 }

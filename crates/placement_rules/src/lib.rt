@@ -16,6 +16,8 @@ pub enum Answer {
 pub struct Placement {
     pub answer: Answer,
     pub hues: [u16; 16],
+    // the smallest gap round the ring, in positions, the closing one included; 0 where nothing is placed
+    pub tightest: usize,
 }
 
 // The step for a hue count, or why there is none.

@@ -82,6 +82,7 @@ fn malformed() -> Placement
     Placement {
         answer: Answer::Refused(Refusal::Line),
         hues: [0u16; 16],
+        tightest: 0,
     }
 }
 

@@ -4,6 +4,7 @@ use mathlib.Core.Bool.{Bool, true, false, _&&_, cond}
 use mathlib.Core.List.{List, [], _∷_}
 use Prim.Native.Nat.{ℕ}
 use lib.Ieee.{Float}
+use lib.ListN.{length, take}
 use Rattle.limits.specs.Answers.{Said, value, refused}
 use Rattle.limits.specs.Refusals.{number}
 use Rattle.limits.specs.Taken.{entryTaken, every}
@@ -11,14 +12,15 @@ use Rattle.limits.specs.declared.Refusal.{Refusal}
 use Rattle.gamut.specs.Table.{rowAt}
 use Rattle.gamut.proofs.Table.{row-long, part, part-row}
 use Rattle.placement_rules.specs.Placing.{stepFor}
+use Rattle.placement_rules.specs.Gaps.{tightest}
 use Rattle.placement_rules.proofs.Step.{step-taken}
 use Rattle.pair_rules.specs.declared.Answer.{Answer}
 use Rattle.pair_rules.specs.declared.Answer.the-variants.{Found, Nothing, Refused}
 use Rattle.pair_rules.specs.Rows.{leastRow}
-use Rattle.pair_rules.specs.Pair.{Best, bestOver, rowsSay, pairSays, answers}
+use Rattle.pair_rules.specs.Pair.{Best, bestOver, rowsSay, pairSays, tightestBeside, answers}
 use Rattle.search_rules.specs.declared.Job.{Job}
 use Rattle.search_rules.specs.Job.{floorOf, qualifies, beats, movedOn, replaced, afterPair, pairBest, searched}
-use Rattle.search.specs.Inner.{pairGiven, Stepped}
+use Rattle.search.specs.Inner.{pairTightest, pairGiven, Stepped}
 use Rattle.search_rules.proofs.Unbroken.{sound}
 use Rattle.search_rules.proofs.Floor.{floor-taken}
 use Rattle.search_rules.proofs.Rows.{rows-left}
@@ -37,6 +39,12 @@ pair-says j table room d l step floor s e f =
     rw (e, f, part-row table d, part-row table l)
     (rows-left k (stepFor k) (floorOf (j .best)) a b room good (t .hue-count-taken) (step-taken k (t .hue-count-taken)) (floor-taken (j .levels) (j .best) (t .best-held))
     (row-long table (j .levels) d (s .long) (s .dark-in)) (row-long table (j .levels) l (s .long) (s .light-in)) (s .room-enough))
+
+-- its smallest gap goes by the circle
+pub gap-round : (j : Job) (table : List Float) (room d l gap : ℕ) {x y : Said Best} → Stepped j table room d l → x ≡ y → gap ≡ tightestBeside (length (part table d)) (j .settings .k) x → gap ≡ pairTightest (j .settings .k) y
+gap-round j table room d l gap {x} s e g =
+    let long : length (part table d) ≡ 720 = ap length (part-row table d) ∙ row-long table (j .levels) d (s .long) (s .dark-in) in
+    g ∙ ap (λ (n : ℕ). tightestBeside n (j .settings .k) x) long ∙ ap (pairTightest (j .settings .k)) e
 
 -- ---- the job after it
 abbrev after : Job → ℕ → ℕ → Said Best → Said Job
@@ -67,11 +75,17 @@ module _ (j : Job) (table : List Float) (d l : ℕ) where
     pub went-nowhere : answer ≡ Nothing → searched j table d l ≡ value (movedOn j)
     went-nowhere e = went ∙ ap (λ (a : Answer). after j d l (answers a hues)) e
 
-    went-found : (c : Float) → answer ≡ Found c → searched j table d l ≡ value (cond (beats c (j .best)) (replaced j c d l hues) (movedOn j))
+    abbrev better : Float → Job
+    better c = replaced j c d l hues (tightest 720 (take (j .settings .k) hues))
+
+    went-found : (c : Float) → answer ≡ Found c → searched j table d l ≡ value (cond (beats c (j .best)) (better c) (movedOn j))
     went-found c e = went ∙ ap (λ (a : Answer). after j d l (answers a hues)) e
 
-    pub went-better : (c : Float) → answer ≡ Found c → beats c (j .best) ≡ true → searched j table d l ≡ value (replaced j c d l hues)
-    went-better c e b = went-found c e ∙ ap (λ (t : Bool). value (cond t (replaced j c d l hues) (movedOn j))) b
+    -- with the smallest gap that stands beside the pair's answer
+    pub went-better : (c : Float) → answer ≡ Found c → (t : ℕ) → t ≡ pairTightest (j .settings .k) (pairGiven j table d l) → beats c (j .best) ≡ true → searched j table d l ≡ value (replaced j c d l hues t)
+    went-better c e t f b =
+        let beside : t ≡ tightest 720 (take (j .settings .k) hues) = f ∙ ap (pairTightest (j .settings .k)) (sym says ∙ ap (λ (a : Answer). answers a hues) e) in
+        went-found c e ∙ ap (λ (b : Bool). value (cond b (better c) (movedOn j))) b ∙ ap (λ (x : ℕ). value (replaced j c d l hues x)) (sym beside)
 
     pub went-worse : (c : Float) → answer ≡ Found c → beats c (j .best) ≡ false → searched j table d l ≡ value (movedOn j)
-    went-worse c e b = went-found c e ∙ ap (λ (t : Bool). value (cond t (replaced j c d l hues) (movedOn j))) b
+    went-worse c e b = went-found c e ∙ ap (λ (t : Bool). value (cond t (better c) (movedOn j))) b

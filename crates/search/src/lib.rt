@@ -19,7 +19,7 @@ ghost use Rattle.limits.specs.Taken.{hueCountTaken};
 ghost use Rattle.placement_rules.specs.Placing.{stepFor};
 ghost use Rattle.search_rules.specs.declared.Job.{Job};
 ghost use Rattle.search_rules.specs.Job.{begun, startSays, floorOf, beats, movedOn, replaced, searched, stepSays, stepsFrom, searchSays, Gives};
-ghost use Rattle.search.specs.Inner.{pairAnswers, pairHues, pairGiven, Stepped};
+ghost use Rattle.search.specs.Inner.{pairAnswers, pairHues, pairTightest, pairGiven, Stepped};
 
 // A call that is refused, with the job as it was.
 fn refuse(why: Refusal, job: Job) -> Outcome
@@ -51,6 +51,7 @@ fn begin(settings: Settings, levels: usize) -> Job
         position: 0,
         best: Best::None,
         hues: [0u16; 16],
+        tightest: 0,
     }
 }
 
@@ -97,9 +98,16 @@ fn moved_on(job: Job) -> Job
 }
 
 // The job one position on, with another best.
-fn replaced(job: Job, chroma: f32, dark: usize, light: usize, hues: [u16; 16]) -> Job
+fn replaced(
+    job: Job,
+    chroma: f32,
+    dark: usize,
+    light: usize,
+    hues: [u16; 16],
+    tightest: usize,
+) -> Job
     requires { ⌜ job .position < 28561 ⌝ }
-    ensures { λ r. ⌜ r ≡ replaced job chroma dark light hues ⌝ }
+    ensures { λ r. ⌜ r ≡ replaced job chroma dark light hues tightest ⌝ }
 {
     let settings = job.settings;
     let levels = job.levels;
@@ -111,6 +119,7 @@ fn replaced(job: Job, chroma: f32, dark: usize, light: usize, hues: [u16; 16]) -
         position,
         best,
         hues,
+        tightest,
     }
 }
 
@@ -130,6 +139,7 @@ fn step_of(k: usize) -> usize
 fn best_of(table: &[f32], work: &mut [u16], job: Job, dark: usize, light: usize) -> Chosen
     requires { ⌜ Stepped job (now table) (length (now work)) dark light ⌝ }
     ensures { λ r. ⌜ (pairAnswers (r .answer) (r .hues) ≡ pairGiven job (now (table .entry)) dark light) × (r .hues ≡ pairHues (pairGiven job (now (table .entry)) dark light)) ⌝ }
+    ensures { λ r. ⌜ r .tightest ≡ pairTightest (job .settings .k) (pairGiven job (now (table .entry)) dark light) ⌝ }
     ensures { λ r. ⌜ ((w : ℕ) → pairGiven job (now (table .entry)) dark light ≡ refused w → now (work .exit) ≡ now (work .entry)) ⌝ }
 {
     let k = job.settings.k;
@@ -164,7 +174,7 @@ fn go_through(table: &[f32], work: &mut [u16], job: Job, dark: usize, light: usi
         pair::Answer::Found(c) => {
             let best = job.best;
             if beats(c, best) {
-                return accept(replaced(job, c, dark, light, hues));
+                return accept(replaced(job, c, dark, light, hues, chosen.tightest));
             }
             accept(moved_on(job))
         }

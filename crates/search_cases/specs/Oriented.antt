@@ -1,5 +1,5 @@
 -- What the words of a line `orient gap hue number chroma dark light partner` say of the answer with one hue fixed, and of its hues. A line
--- `set` has its number in the same place. Definitions only.
+-- `set` has its number in the same place, and one word more where nothing is found. Definitions only.
 use Prim.Native.Nat.{ℕ}
 use mathlib.Core.Bool.{Bool, _&&_, cond}
 use mathlib.Core.List.{List, _∷_}
@@ -17,15 +17,15 @@ abbrev pub foundSaid : Float → ℕ → ℕ → List ℕ → ℕ → Bool
 foundSaid c d l words count =
     (eqb count 7 && eqb 0 (getD words 2 0)) && (sameFloat c (getD words 3 0) && (eqb d (getD words 4 0) && eqb l (getD words 5 0)))
 
--- this number as the third word, and nothing after it
-abbrev pub numberSaid : ℕ → List ℕ → ℕ → Bool
-numberSaid n words count = eqb count 3 && eqb n (getD words 2 0)
+-- so many words, and this number as the third of them
+abbrev pub numberSaid : ℕ → List ℕ → ℕ → ℕ → Bool
+numberSaid n words count all = eqb count all && eqb n (getD words 2 0)
 
 -- this answer
 abbrev pub answerSaid : Answer → List ℕ → ℕ → Bool
 answerSaid (Found c d l) words count = foundSaid c d l words count
-answerSaid Nothing words count = numberSaid 0 words count
-answerSaid (Refused w) words count = numberSaid (number w) words count
+answerSaid Nothing words count = numberSaid 0 words count 3
+answerSaid (Refused w) words count = numberSaid (number w) words count 3
 
 -- the fixed hue and its partner, and zeros
 abbrev pub huesSaid : List ℕ → List ℕ

@@ -33,7 +33,7 @@ fn held(outcome: Outcome, kept: bool, number: u32, expected: Job) -> Taken {
 // Takes a start.
 pub fn start(words: [u32; 24], count: usize, table: &[f32], lent: Job) -> Taken {
     let settings = case_jobs::settings_said(words);
-    let expected = jobs::after(lent, settings, size_at(words, 3), 0, words, 4, count);
+    let expected = jobs::after(lent, settings, size_at(words, 3), 0, 0, words, 4, count);
     let outcome = search::start(settings, table, lent);
     held(outcome, true, word_at(words, 2), expected)
 }
@@ -68,8 +68,9 @@ pub fn step(
         settings,
         lent.levels,
         size_at(words, 2),
+        size_at(words, 3),
         words,
-        3,
+        4,
         count,
     );
     let called = stepped(seed, table, work, lent);
@@ -121,7 +122,15 @@ pub fn steps(words: [u32; 24], seed: u32, table: &[f32], work: &mut [u16], lent:
     Taken { same, job }
 }
 
-// Takes a whole search in this work buffer.
+// How many pairs so many levels have, or 0 where no table has so many.
+fn pairs_of(levels: usize) -> usize {
+    if levels <= 170 {
+        return levels * levels;
+    }
+    0
+}
+
+// Takes a whole search in this work buffer; one that is accepted ends after the last pair.
 pub fn search(
     words: [u32; 24],
     count: usize,
@@ -132,7 +141,16 @@ pub fn search(
 ) -> Taken {
     let settings = case_jobs::settings_said(words);
     let levels = table.len() / 720;
-    let expected = jobs::after(lent, settings, levels, size_at(words, 4), words, 5, count);
+    let expected = jobs::after(
+        lent,
+        settings,
+        levels,
+        pairs_of(levels),
+        size_at(words, 4),
+        words,
+        5,
+        count,
+    );
     rubbish::fill(work, seed);
     let outcome = search::search(settings, table, work, lent);
     let kept = rubbish::stands(work, seed);

@@ -51,6 +51,7 @@ pub fn same(one: Job, other: Job) -> bool {
         && one.position == other.position
         && same_best(best, other_best)
         && same_hues(hues, other_hues)
+        && one.tightest == other.tightest
 }
 
 // A digest with a number, which counts as the greatest word where it is greater.
@@ -75,7 +76,7 @@ fn with_found(sum: u64, best: Best) -> u64 {
     }
 }
 
-// A digest with a job: its hue count, gap, levels and position, its best, and its hues.
+// A digest with a job: its hue count, gap, levels and position, its best, its hues, and its tightest gap.
 pub fn digested(sum: u64, job: Job) -> u64 {
     let settings = job.settings;
     let best = job.best;
@@ -85,7 +86,10 @@ pub fn digested(sum: u64, job: Job) -> u64 {
         patterns::pattern_of(settings.gap),
     );
     let second = with_number(with_number(first, job.levels), job.position);
-    digest::with_hues(with_found(second, best), hues)
+    with_number(
+        digest::with_hues(with_found(second, best), hues),
+        job.tightest,
+    )
 }
 
 // A best by three words from one of them on, or none where they are missing.
@@ -109,6 +113,7 @@ pub fn after(
     settings: Settings,
     levels: usize,
     position: usize,
+    tightest: usize,
     words: [u32; 24],
     from: usize,
     count: usize,
@@ -124,6 +129,7 @@ pub fn after(
         position,
         best,
         hues,
+        tightest,
     }
 }
 

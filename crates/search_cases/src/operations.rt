@@ -19,10 +19,10 @@ pub const COPY: u64 = 0x636f_7079;
 // panel i n: the first n rows are filled for the levels from i on
 pub const PANEL: u64 = 0x70_616e_656c;
 
-// job k gap levels position h ..: the next call is lent this job, with none so far and these hues
+// job k gap levels position tightest h ..: the next call is lent this job, with none so far and these hues
 pub const JOB: u64 = 0x6a_6f62;
 
-// best chroma dark light: the job that the next call is lent has this best
+// best chroma dark light tightest: the job that the next call is lent has this best and this tightest gap
 pub const BEST: u64 = 0x6265_7374;
 
 // levels n l ..: the list of the sets from here on has n level indices, which are these
@@ -31,22 +31,23 @@ pub const LEVELS: u64 = 0x6c65_7665_6c73;
 // start k gap number levels: a start: the number of its refusal, or 0 and the levels of the job after it
 pub const START: u64 = 0x73_7461_7274;
 
-// step room number position chroma dark light h ..: a step with a work buffer of this length: the number of its refusal,
-// or 0 with the position of the job after it, and its best and k hues where it has one
+// step room number position tightest chroma dark light h ..: a step with a work buffer of this length: the number of its
+// refusal, or 0 with the position and the tightest gap of the job after it, and its best and k hues where it has one
 pub const STEP: u64 = 0x7374_6570;
 
 // steps n room hi lo: n steps, and the digest of their answers with the jobs after them
 pub const STEPS: u64 = 0x73_7465_7073;
 
-// search k gap room number position chroma dark light h ..: a whole search: the same as of a step
+// search k gap room number tightest chroma dark light h ..: a whole search: the same as of a step, but for the position, which
+// is the last one
 const SEARCH: u64 = 0x7365_6172_6368;
 
 // orient gap hue number chroma dark light partner: the best with this hue fixed: the number of its refusal, or 0 with the
 // chroma, the level indices and the partner where something is found
 pub const ORIENT: u64 = 0x6f72_6965_6e74;
 
-// set k room number chroma h ..: the best of the levels listed, with a work buffer of this length: the number of its refusal, or 0
-// with the chroma and k hues where something is found
+// set k room number tightest chroma h ..: the best of the levels listed, with a work buffer of this length: the number of its
+// refusal or 0, the tightest gap, which is 0 where nothing is found, and the chroma and k hues where something is
 pub const SET: u64 = 0x73_6574;
 
 // How many operations there are.
@@ -78,10 +79,10 @@ pub const NAMES: [u64; 15] = [
 ];
 
 // How many words each of them has at least.
-const FEWEST: [usize; 15] = [3, 1, 2, 3, 3, 2, 4, 3, 1, 3, 2, 4, 4, 3, 3];
+const FEWEST: [usize; 15] = [3, 1, 2, 3, 3, 2, 5, 4, 1, 3, 2, 4, 4, 3, 4];
 
 // How many words each of them has at most.
-const MOST: [usize; 15] = [3, 1, 24, 3, 3, 2, 20, 3, 24, 4, 22, 4, 24, 7, 20];
+const MOST: [usize; 15] = [3, 1, 24, 3, 3, 2, 21, 4, 24, 4, 23, 4, 24, 7, 21];
 
 // The place of an operation among all, or none of their places, NOWHERE, where there is no such operation or it may not have
 // so many words.

@@ -37,11 +37,11 @@ fn same_found(chroma: f32, dark: usize, light: usize, words: [u32; 24], count: u
     both(number, both(same_at(chroma, words, 3), levels))
 }
 
-// Whether the words say this number, as the third of them, and nothing after it.
-pub fn same_number(number: u8, words: [u32; 24], count: usize) -> bool
-    ensures { λ r. ⌜ r ≡ numberSaid number words count ⌝ }
+// Whether the words are so many and say this number, as the third of them.
+pub fn same_number(number: u8, words: [u32; 24], count: usize, all: usize) -> bool
+    ensures { λ r. ⌜ r ≡ numberSaid number words count all ⌝ }
 {
-    both(count == 3, is_at(number as usize, words, 2))
+    both(count == all, is_at(number as usize, words, 2))
 }
 
 // Whether an answer is the one that the words say.
@@ -50,8 +50,8 @@ fn same_answer(answer: Answer, words: [u32; 24], count: usize) -> bool
 {
     match answer {
         Answer::Found(chroma, dark, light) => same_found(chroma, dark, light, words, count),
-        Answer::Nothing => same_number(0, words, count),
-        Answer::Refused(why) => same_number(why.number(), words, count),
+        Answer::Nothing => same_number(0, words, count, 3),
+        Answer::Refused(why) => same_number(why.number(), words, count, 3),
     }
 }
 

@@ -19,8 +19,8 @@ fn same_found(chroma: f32, words: [u32; 24], count: usize) -> bool
     ensures { λ r. ⌜ r ≡ foundSaid chroma words count ⌝ }
 {
     both(
-        both(3 < count, is_at(0, words, 2)),
-        same_at(chroma, words, 3),
+        both(4 < count, is_at(0, words, 2)),
+        same_at(chroma, words, 4),
     )
 }
 
@@ -30,20 +30,23 @@ fn same_answer(answer: Answer, words: [u32; 24], count: usize) -> bool
 {
     match answer {
         Answer::Found(chroma) => same_found(chroma, words, count),
-        Answer::Nothing => same_number(0, words, count),
-        Answer::Refused(why) => same_number(why.number(), words, count),
+        Answer::Nothing => same_number(0, words, count, 4),
+        Answer::Refused(why) => same_number(why.number(), words, count, 4),
     }
 }
 
-// Whether an answer and all of its sixteen hues are what the words say.
+// Whether an answer, its tightest gap and all of its sixteen hues are what the words say.
 fn same(chosen: Chosen, words: [u32; 24], count: usize) -> bool
-    ensures { λ r. ⌜ r ≡ chosenSaid (chosen .answer) (chosen .hues) words count ⌝ }
+    ensures { λ r. ⌜ r ≡ chosenSaid (chosen .answer) (chosen .tightest) (chosen .hues) words count ⌝ }
 {
     let answer = chosen.answer;
     let given = chosen.hues;
     both(
         same_answer(answer, words, count),
-        hues::same(given, words, 4, count),
+        both(
+            is_at(chosen.tightest, words, 3),
+            hues::same(given, words, 5, count),
+        ),
     )
 }
 

@@ -7,9 +7,10 @@ use search_rules::Best;
 use search_rules::Job;
 use search_rules::Settings;
 ghost use mathlib.Core.Path.{_≡_};
+ghost use mathlib.Core.Bool.{_&&_};
 ghost use Rattle.limits.specs.Answers.{value};
 ghost use Rattle.limits.specs.Refusals.{checkSaid};
-ghost use Rattle.search_rules.specs.Job.{gapStarts, startChecked, bestHeld, handed, huesHeld, unbroken, stepChecked, qualifies};
+ghost use Rattle.search_rules.specs.Job.{gapStarts, startChecked, bestHeld, handed, huesHeld, tightestHeld, unbroken, stepChecked, qualifies};
 
 // Whether a job may be begun with this gap: one that number 2 of document 01 takes, and from 40 up.
 fn starts_gap(gap: f32) -> bool
@@ -72,6 +73,23 @@ fn handed(k: usize, best: Best) -> usize
     }
 }
 
+// Whether the smallest gap beside a best so far is in its range, or 0 where there is none.
+fn holds_tightest(best: Best, tightest: usize) -> bool
+    ensures { λ r. ⌜ r ≡ tightestHeld best tightest ⌝ }
+{
+    match best {
+        Best::None => tightest == 0,
+        Best::Found(_, _, _) => 1 <= tightest && tightest <= Gamut::HUES,
+    }
+}
+
+// Whether what is handed out with a best so far is in its ranges: its hues and their smallest gap.
+fn holds_handed(k: usize, best: Best, hues: [u16; 16], tightest: usize) -> bool
+    ensures { λ r. ⌜ r ≡ huesHeld (handed k best) hues && tightestHeld best tightest ⌝ }
+{
+    holds_hues(handed(k, best), hues) && holds_tightest(best, tightest)
+}
+
 // Whether no field of a job is out of its range.
 pub fn is_unbroken(job: Job) -> bool
     ensures { λ r. ⌜ r ≡ unbroken job ⌝ }
@@ -91,7 +109,7 @@ pub fn is_unbroken(job: Job) -> bool
     if levels * levels < position {
         return false;
     }
-    holds_best(levels, best) && holds_hues(handed(k, best), hues)
+    holds_best(levels, best) && holds_handed(k, best, hues, job.tightest)
 }
 
 // The first refusal of a step before it reads a row, of 15, 14, 6 and 8.

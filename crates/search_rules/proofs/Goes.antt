@@ -10,7 +10,7 @@ use native.Mathlib.Nat.{le-of-suc-le-suc, not-suc-le-zero, mod-lt, div-lt-iff-lt
 use native.Mathlib.Omega.{arith}
 use lib.Dec.{leb}
 use lib.Ieee.{Float, le}
-use lib.ListN.{length, getD, replicate}
+use lib.ListN.{length, getD, take, replicate}
 use borrow.Author.Tests.{le-leb}
 use Rattle.limits.specs.Answers.{Said, value, refused}
 use Rattle.limits.specs.Taken.{f32Of}
@@ -21,7 +21,9 @@ use Rattle.halving.proofs.Plain.{le-through}
 use Rattle.gamut.specs.Table.{levelsIn, rowAt}
 use Rattle.gamut.proofs.Table.{row-taken}
 use Rattle.placement_rules.specs.Placing.{stepFor, workNeeded, stores}
-use Rattle.placement_rules.proofs.Stored.{stored-next}
+use Rattle.placement_rules.specs.Gaps.{tightest}
+use Rattle.placement_rules.proofs.Stored.{stored-next, first-of}
+use Rattle.placement_rules.proofs.Gaps.{tightest-within}
 use Rattle.pair_rules.specs.Pair as pair
 use Rattle.pair_rules.specs.Pair.{none, found}
 use Rattle.pair_rules.proofs.Promise.{Handed, what-is-handed}
@@ -29,11 +31,11 @@ use Rattle.search_rules.specs.declared.Settings.{Settings}
 use Rattle.search_rules.specs.declared.Best.{Best}
 use Rattle.search_rules.specs.declared.Best.the-variants.{Found}
 use Rattle.search_rules.specs.declared.Job.{Job}
-use Rattle.search_rules.specs.Job.{begun, bestHeld, handed, huesHeld, unbroken, qualifies, floorOf, beats, movedOn, replaced, afterPair, pairBest, searched, stepChecked, stepSays, jobAfter, stepsFrom, searchSays}
+use Rattle.search_rules.specs.Job.{begun, bestHeld, handed, huesHeld, tightestHeld, unbroken, qualifies, floorOf, beats, movedOn, replaced, afterPair, pairBest, searched, stepChecked, stepSays, jobAfter, stepsFrom, searchSays}
 use Rattle.search_rules.specs.Runs.{Call, start, began, step, tableOf, given, run, History, unstarted, since, noted, historyFrom, history, OverOneTable, Lent, steps, wholeSearch}
 use Rattle.search_rules.specs.Accepted.{StartTaken, BeganTaken, AllAccepted}
 use Rattle.search_rules.proofs.Checking.{step-checks, step-passes}
-use Rattle.search_rules.proofs.Unbroken.{sound, unbroken-by, best-back}
+use Rattle.search_rules.proofs.Unbroken.{sound, unbroken-by, best-back, gap-back}
 use Rattle.search_rules.proofs.Floor.{BestF32, floor-f32, floor-from, floor-taken, chroma-plain, thirty-five, at-most-200}
 use Rattle.search_rules.proofs.Rows.{Good, shape, long, rows-f32, pair-says}
 use Rattle.search_rules.proofs.Accepted.{start-given, began-given, also-began, search-given}
@@ -57,7 +59,7 @@ stored-held (suc n) (i ∷ is) h f =
 pub begun-unbroken : (s : Settings) (t : List Float) → BeganTaken s t → unbroken (begun s (levelsIn t)) ≡ true
 begun-unbroken s t h =
     unbroken-by (begun s (levelsIn t))
-    (record { hue-count-taken = count-taken (s .k) (h .hue-count); gap-held = h .gap; some-level = h .levels .0; few-levels = h .levels .1; within = omega arith; best-held = refl; hues-held = zeros-held 16 })
+    (record { hue-count-taken = count-taken (s .k) (h .hue-count); gap-held = h .gap; some-level = h .levels .0; few-levels = h .levels .1; within = omega arith; best-held = refl; hues-held = zeros-held 16; tightest-held = refl })
 
 -- ---- one step
 -- what an accepted step leaves of j at levels d and l
@@ -94,17 +96,17 @@ module _ (t : List Float) (good : Good t) (j : Job) (u : unbroken j ≡ true) (u
   L' : l < levelsIn t
   L' = let e = same in let h = L in omega arith
 
-  -- the tests of number 15 at the next position, with a best and hues that are held
-  still : (b : Best) (hues : List ℕ) → bestHeld m b ≡ true → huesHeld (handed (j .settings .k) b) hues ≡ true
-      → unbroken (record { settings = j .settings; levels = m; position = j .position + 1; best = b; hues = hues }) ≡ true
-  still b hues p q =
+  -- the tests of number 15 at the next position, with a best, hues and a smallest gap that are held
+  still : (b : Best) (hues : List ℕ) (t : ℕ) → bestHeld m b ≡ true → huesHeld (handed (j .settings .k) b) hues ≡ true → tightestHeld b t ≡ true
+      → unbroken (record { settings = j .settings; levels = m; position = j .position + 1; best = b; hues = hues; tightest = t }) ≡ true
+  still b hues t p q r =
       let s = sound j u in
-      unbroken-by (record { settings = j .settings; levels = m; position = j .position + 1; best = b; hues = hues })
-      (record { hue-count-taken = s .hue-count-taken; gap-held = s .gap-held; some-level = s .some-level; few-levels = s .few-levels; within = omega arith; best-held = p; hues-held = q })
+      unbroken-by (record { settings = j .settings; levels = m; position = j .position + 1; best = b; hues = hues; tightest = t })
+      (record { hue-count-taken = s .hue-count-taken; gap-held = s .gap-held; some-level = s .some-level; few-levels = s .few-levels; within = omega arith; best-held = p; hues-held = q; tightest-held = r })
 
   on : Went t j d l (movedOn j)
   on = record {
-    still-unbroken = still (j .best) (j .hues) (sound j u .best-held) (sound j u .hues-held);
+    still-unbroken = still (j .best) (j .hues) (j .tightest) (sound j u .best-held) (sound j u .hues-held) (sound j u .tightest-held);
     same-settings = refl;
     same-levels = refl;
     next-position = omega arith;
@@ -134,9 +136,22 @@ module _ (t : List Float) (good : Good t) (j : Job) (u : unbroken j ≡ true) (u
         ap (huesHeld (j .settings .k)) (sym (h₀ .stored)) ∙ ap (λ (i : ℕ). huesHeld i (stores (replicate 16 0) 0 is)) (sym c)
         ∙ stored-held 16 is (omega arith) (λ (p : ℕ) (k : p < length is). let w = h₀ .spaced .within p (omega arith) in omega arith)
 
-    other : Went t j d l (replaced j c' d l hues)
+    abbrev gap : ℕ
+    gap = tightest 720 (take (j .settings .k) hues)
+
+    gap-there : tightestHeld (Found c' d l) gap ≡ true
+    gap-there =
+        let is = h₀ .indices in
+        let c = h₀ .spaced .count in
+        let (some, few) = hue-count (j .settings .k) (sound j u .hue-count-taken) in
+        let long = long t good d D' in
+        let first : take (j .settings .k) hues ≡ is = first-of (j .settings .k) is hues (h₀ .stored) c few in
+        gap-back (Found c' d l) gap
+        (rw first (tightest-within 720 is (omega arith) (λ (p : ℕ) (k : p < length is). let w = h₀ .spaced .within p (omega arith) in omega arith)))
+
+    other : Went t j d l (replaced j c' d l hues gap)
     other = record {
-      still-unbroken = still (Found c' d l) hues best-there hues-there;
+      still-unbroken = still (Found c' d l) hues gap best-there hues-there gap-there;
       same-settings = refl;
       same-levels = refl;
       next-position = omega arith;
@@ -144,7 +159,7 @@ module _ (t : List Float) (good : Good t) (j : Job) (u : unbroken j ≡ true) (u
       kept-or-pair = inr (c', (hues, (e, (refl, refl))));
     }
 
-    either : (b : Bool) → Went t j d l (cond b (replaced j c' d l hues) (movedOn j))
+    either : (b : Bool) → Went t j d l (cond b (replaced j c' d l hues gap) (movedOn j))
     either true = other
     either false = on
 
@@ -162,7 +177,7 @@ module _ (t : List Float) (good : Good t) (j : Job) (u : unbroken j ≡ true) (u
       go : (q : Bool) (best : pair.Best) → pairBest j t d l ≡ best → (j' : Job) × ((cond q (value (afterPair j d l best)) (value (movedOn j)) ≡ value j') × Went t j d l j')
       go false best e = (movedOn j, (refl, on))
       go true none e = (movedOn j, (refl, on))
-      go true (found c' hues) e = (cond (beats c' (j .best)) (replaced j c' d l hues) (movedOn j), (refl, either c' hues e (beats c' (j .best))))
+      go true (found c' hues) e = (cond (beats c' (j .best)) (replaced j c' d l hues (tightest 720 (take (j .settings .k) hues))) (movedOn j), (refl, either c' hues e (beats c' (j .best))))
 
 -- ---- steps one after the other, over one table with one work buffer
 module _ (t : List Float) (work : List ℕ) where

@@ -7,7 +7,7 @@ use Prim.Native.Nat.{ℕ, suc, _+_, _*_, _/_, _%_, _≤_, _<_}
 use native.Mathlib.Nat.{mod-lt, div-lt-iff-lt-mul, div-add-mod', not-suc-le-zero}
 use native.Mathlib.Omega.{arith}
 use lib.Ieee.{Float, binary32, toBits, lt, le}
-use lib.ListN.{length, take, replicate}
+use lib.ListN.{length, take}
 use Rattle.limits.specs.Answers.{value, refused}
 use Rattle.limits.specs.Taken.{f32Of, hueCountTaken, entryTaken, every}
 use Rattle.limits.specs.Each.{Each, F32}
@@ -17,8 +17,9 @@ use Rattle.limits.proofs.Checks.{all-pass}
 use Rattle.halving.specs.Patterns.{next}
 use Rattle.halving.proofs.Plain.{Plain, le-through, not-le-lt, lt-then-le, not-lt-le, le-not-lt, next-plain, next-above, next-le}
 use Rattle.gamut.specs.Table.{levelsIn, rowAt}
-use Rattle.placement_rules.specs.Placing.{stepFor, workNeeded, stores}
-use Rattle.placement_rules.proofs.Stored.{first-stored}
+use Rattle.placement_rules.specs.Placing.{stepFor, workNeeded}
+use Rattle.placement_rules.specs.Gaps.{tightest}
+use Rattle.placement_rules.proofs.Stored.{first-of}
 use Rattle.pair_rules.specs.Pair as pair
 use Rattle.pair_rules.specs.Pair.{none, found, rowsSay}
 use Rattle.pair_rules.specs.Limit.{Limit}
@@ -106,6 +107,8 @@ module _ (t : List Float) (s : Settings) (n : ℕ) (j : Job) (kept : Kept t s n 
       reached = λ (c : Float) (d l : ℕ) (e : j .best ≡ Found c d l). let r = pm .reached c d l e in (later t s n (r .0), (r .1 .0, (r .1 .1 .0, (r .1 .1 .1 .0, r .1 .1 .1 .1))));
       none-said = λ (e : j .best ≡ None). by-place t s n (λ (dk lt' : ℕ) (hs : List ℕ). le (f32Of 35) (commonOf t dk lt' hs) ≡ true → ⊥) (pm .none-said e) (none-new e);
       none-meant = λ (f : (x : Choice t s (suc n)) → le (f32Of 35) (commonOf t (x .dark) (x .light) (x .hues)) ≡ true → ⊥). pm .none-meant (λ (x : Choice t s n). f (later t s n x));
+      tightest-is = pm .tightest-is;
+      tightest-none = pm .tightest-none;
     };
   }
 
@@ -177,13 +180,9 @@ module _ (t : List Float) (s : Settings) (n : ℕ) (j : Job) (kept : Kept t s n 
     }
 
     first-k : take (s .k) hues ≡ handed₀ .indices
-    first-k =
-        let is = handed₀ .indices in
-        let c = handed₀ .spaced .count in
-        let few = hue-count (s .k) (kept .some-hue) .1 in
-        ap (take (s .k)) (sym (handed₀ .stored)) ∙ ap (λ (i : ℕ). take i (stores (replicate 16 0) 0 is)) (sym c) ∙ first-stored (replicate 16 0) is (omega arith)
+    first-k = first-of (s .k) (handed₀ .indices) hues (handed₀ .stored) (handed₀ .spaced .count) (hue-count (s .k) (kept .some-hue) .1)
 
-    replacing : qualifies s d₀ l₀ ≡ true → Kept t s (suc n) (replaced j c' d₀ l₀ hues)
+    replacing : qualifies s d₀ l₀ ≡ true → Kept t s (suc n) (replaced j c' d₀ l₀ hues (tightest 720 (take (s .k) hues)))
     replacing q = record {
       good = kept .good;
       gap-held = kept .gap-held;
@@ -197,6 +196,8 @@ module _ (t : List Float) (s : Settings) (n : ℕ) (j : Job) (kept : Kept t s n 
         reached = λ (c : Float) (d l : ℕ) (e : Found c' d₀ l₀ ≡ Found c d l). (new-choice q, (found-same e .1 .0, (found-same e .1 .1, (sym first-k, reaches c d l (found-same e)))));
         none-said = λ (e : Found c' d₀ l₀ ≡ None). none-found (sym e);
         none-meant = λ (f : (x : Choice t s (suc n)) → le (f32Of 35) (commonOf t (x .dark) (x .light) (x .hues)) ≡ true → ⊥). absurd (f (new-choice q) (subst (λ (hs : List ℕ). le (f32Of 35) (commonOf t d₀ l₀ hs) ≡ true) first-k over35));
+        tightest-is = λ (c : Float) (d l : ℕ) (e : Found c' d₀ l₀ ≡ Found c d l). refl;
+        tightest-none = λ (e : Found c' d₀ l₀ ≡ None). none-found (sym e);
       };
     }
       where
@@ -285,7 +286,7 @@ module _ (t : List Float) (j : Job) (kept : Kept t (j .settings) (j .position) j
 
   -- a chroma is found
   found-there : qualifies s dark₀ light₀ ≡ true → (c' : Float) (hues : List ℕ) → pairBest j t dark₀ light₀ ≡ found c' hues
-      → (b : Bool) → beats c' (j .best) ≡ b → After (cond b (replaced j c' dark₀ light₀ hues) (movedOn j))
+      → (b : Bool) → beats c' (j .best) ≡ b → After (cond b (replaced j c' dark₀ light₀ hues (tightest 720 (take (s .k) hues))) (movedOn j))
   found-there q c' hues e true b = replacing t s n j kept u unfinished c' hues (said-pair ∙ ap value e) q
   found-there q c' hues e false b = moved t s n j kept u unfinished up (λ f x a g h. never (sym b ∙ ap (beats c') f))
     where
@@ -309,7 +310,7 @@ module _ (t : List Float) (j : Job) (kept : Kept t (j .settings) (j .position) j
       go true q false best b h = absurd (let z : _≡_ {A = ℕ} 0 1 = cc in omega arith)
       go true q true none b h = subst After (same-job (movedOn j) j' h) (none-there b)
       go true q true (found c' hues) b h =
-          subst After (same-job (cond (beats c' (j .best)) (replaced j c' dark₀ light₀ hues) (movedOn j)) j' h) (found-there q c' hues b (beats c' (j .best)) refl)
+          subst After (same-job (cond (beats c' (j .best)) (replaced j c' dark₀ light₀ hues (tightest 720 (take (s .k) hues))) (movedOn j)) j' h) (found-there q c' hues b (beats c' (j .best)) refl)
 
 pub step-kept : (t : List Float) (s : Settings) (n : ℕ) (j j' : Job) (room : ℕ) → Kept t s n j → stepSays j t room ≡ value j' → Kept t s (suc n) j'
 unfolding stepSays stepChecked
@@ -340,6 +341,8 @@ began-kept s t j' F h =
         reached = λ (c : Float) (d l : ℕ) (e : None ≡ Found c d l). none-found e;
         none-said = λ (e : None ≡ None) (x : Choice t s 0). nobody x;
         none-meant = λ (f : (x : Choice t s 0) → le (f32Of 35) (commonOf t (x .dark) (x .light) (x .hues)) ≡ true → ⊥). refl;
+        tightest-is = λ (c : Float) (d l : ℕ) (e : None ≡ Found c d l). none-found e;
+        tightest-none = λ (e : None ≡ None). refl;
       };
     })
   where

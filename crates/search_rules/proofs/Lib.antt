@@ -11,6 +11,7 @@ pub mod Runs
 pub mod Accepted
 pub mod Goes
 pub mod KeptJobs
+pub mod Filled
 pub mod Example
 pub mod Loops
 pub mod Rooms

@@ -8,13 +8,14 @@ use Prim.Native.Nat.{ℕ, suc, _+_, _*_, _/_, _%_, _≤_}
 use native.Mathlib.Nat.{zero-mul}
 use native.Mathlib.Omega.{arith}
 use lib.Ieee.{Float}
-use lib.ListN.{length, replicate, length-replicate}
+use lib.ListN.{length, take, replicate, length-replicate}
 use Rattle.limits.specs.Answers.{value, refused}
 use Rattle.limits.specs.Taken.{entryTaken, every}
 use Rattle.limits.specs.Each.{Each, F32}
 use Rattle.limits.proofs.Checks.{all-pass, differ}
 use Rattle.gamut.specs.Table.{levelsIn, rowAt}
 use Rattle.placement_rules.specs.Placing.{workNeeded}
+use Rattle.placement_rules.specs.Gaps.{tightest}
 use Rattle.pair_rules.specs.Pair as pair
 use Rattle.pair_rules.specs.Pair.{none, found}
 use Rattle.search_rules.specs.declared.Settings.{Settings}
@@ -24,6 +25,7 @@ use Rattle.search_rules.specs.Job.{begun, beganSays, qualifies, beats, m
 use Rattle.search_rules.specs.Runs.{Call, run, since, history, OverOneTable, wholeSearch}
 use Rattle.search_rules.specs.Accepted.{Accepted, StartTaken}
 use Rattle.search_rules.specs.Loops.{Solution, unsolved, improved, tried, loop, overLight, twoLoops}
+use Rattle.search_rules.specs.Filled.{gapOf}
 use Rattle.search_rules.proofs.Checking.{step-checks}
 use Rattle.search_rules.proofs.Positions.{last-turn, at, rows}
 use Rattle.search_rules.proofs.Runs.{after-calls}
@@ -31,9 +33,9 @@ use Rattle.search_rules.proofs.Accepted.{began-leaves, search-only, goo
 use Rattle.search_rules.proofs.Goes.{all-accepted, search-is-run}
 
 -- ---- one step
--- the job with these settings, levels and position, and with what the loops carry
+-- the job with these settings, levels and position, and with what the loops carry, of which its smallest gap is worked out
 abbrev pub jobOf : Settings → ℕ → ℕ → Solution → Job
-jobOf s m p so = record { settings = s; levels = m; position = p; best = so .best; hues = so .hues }
+jobOf s m p so = record { settings = s; levels = m; position = p; best = so .best; hues = so .hues; tightest = gapOf (s .k) (so .best) (so .hues) }
 
 module _ (s : Settings) (t : List Float) (m p : ℕ) (so : Solution) where
   abbrev j : Job
@@ -46,7 +48,7 @@ module _ (s : Settings) (t : List Float) (m p : ℕ) (so : Solution) where
   l = p % m
 
   -- a chroma with hues replaces what is carried, or does not
-  replaces : (b : Bool) (c : Float) (hues : List ℕ) → cond b (replaced j c d l hues) (movedOn j) ≡ jobOf s m (p + 1) (cond b (record { best = Found c d l; hues = hues }) so)
+  replaces : (b : Bool) (c : Float) (hues : List ℕ) → cond b (replaced j c d l hues (tightest 720 (take (s .k) hues))) (movedOn j) ≡ jobOf s m (p + 1) (cond b (record { best = Found c d l; hues = hues }) so)
   replaces true c hues = refl
   replaces false c hues = refl
 

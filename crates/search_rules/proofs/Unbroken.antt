@@ -16,8 +16,8 @@ use Rattle.limits.proofs.Tests.{joined, AllTrue, all-true, true-all}
 use Rattle.search_rules.specs.declared.Best.{Best}
 use Rattle.search_rules.specs.declared.Best.the-variants.{None, Found}
 use Rattle.search_rules.specs.declared.Job.{Job}
-use Rattle.search_rules.specs.Job.{gapHeld, bestHeld, handed, huesHeld, unbroken}
-use Rattle.search_rules.specs.Accepted.{BestWithin, HueWithin, Unbroken}
+use Rattle.search_rules.specs.Job.{gapHeld, bestHeld, handed, huesHeld, tightestHeld, unbroken}
+use Rattle.search_rules.specs.Accepted.{BestWithin, HueWithin, TightestWithin, Unbroken}
 
 -- ---- the tests
 abbrev pub tests : Job → List Bool
@@ -29,6 +29,7 @@ tests j =
     ∷ leb (j .position) (j .levels * j .levels)
     ∷ bestHeld (j .levels) (j .best)
     ∷ huesHeld (handed (j .settings .k) (j .best)) (j .hues)
+    ∷ tightestHeld (j .best) (j .tightest)
     ∷ []
 
 pub all-passed : (j : Job) → unbroken j ≡ true → AllTrue (tests j)
@@ -39,7 +40,7 @@ pub passed-all : (j : Job) → AllTrue (tests j) → unbroken j ≡ true
 unfolding unbroken
 passed-all j t = true-all (tests j) t
 
--- what they say of the fields, the best so far and the hues by their tests
+-- what they say of the fields, the best so far, the hues and their smallest gap by their tests
 pub record Sound (j : Job) : Type 0 where
   pub hue-count-taken : hueCountTaken (j .settings .k) ≡ true
   pub gap-held : gapHeld (j .settings .gap) ≡ true
@@ -48,6 +49,7 @@ pub record Sound (j : Job) : Type 0 where
   pub within : j .position ≤ j .levels * j .levels
   pub best-held : bestHeld (j .levels) (j .best) ≡ true
   pub hues-held : huesHeld (handed (j .settings .k) (j .best)) (j .hues) ≡ true
+  pub tightest-held : tightestHeld (j .best) (j .tightest) ≡ true
 
 pub sound : (j : Job) → unbroken j ≡ true → Sound j
 sound j h =
@@ -60,18 +62,19 @@ sound j h =
       within = leb-true (j .position) (j .levels * j .levels) (t .1 .1 .1 .1 .0);
       best-held = t .1 .1 .1 .1 .1 .0;
       hues-held = t .1 .1 .1 .1 .1 .1 .0;
+      tightest-held = t .1 .1 .1 .1 .1 .1 .1 .0;
     }
 
 pub unbroken-by : (j : Job) → Sound j → unbroken j ≡ true
 unbroken-by j s =
     passed-all j
-    (s .hue-count-taken, (s .gap-held, (le-leb 1 (j .levels) (s .some-level), (le-leb (j .levels) 169 (s .few-levels), (le-leb (j .position) (j .levels * j .levels) (s .within), (s .best-held, (s .hues-held, tt)))))))
+    (s .hue-count-taken, (s .gap-held, (le-leb 1 (j .levels) (s .some-level), (le-leb (j .levels) 169 (s .few-levels), (le-leb (j .position) (j .levels * j .levels) (s .within), (s .best-held, (s .hues-held, (s .tightest-held, tt))))))))
 
 -- the square of a level count
 pub square : (n : ℕ) → n ≤ 169 → n * n ≤ 28561
 square n h = mul-le-mul h h
 
--- ---- the hues and the best so far, by their tests and in so many words
+-- ---- the hues, the best so far and the smallest gap, by their tests and in so many words
 hues-in : (n : ℕ) (hs : List ℕ) → huesHeld n hs ≡ true → (p : ℕ) → p < length hs → (p < n → getD hs p 0 ≤ 719) × (n ≤ p → getD hs p 0 ≡ 0)
 unfolding huesHeld
 hues-in n [] h p l = absurd (not-suc-le-zero l)
@@ -114,6 +117,14 @@ hue-back : (k : ℕ) (b : Best) (p x : ℕ) → HueWithin k b p x → (p < hande
 hue-back k None p x h = (λ (l : p < 0). absurd (not-suc-le-zero l), λ (l : 0 ≤ p). h)
 hue-back k (Found c d l) p x h = h
 
+pub gap-in : (b : Best) (t : ℕ) → tightestHeld b t ≡ true → TightestWithin b t
+gap-in None t h = eqb-true t 0 h
+gap-in (Found c d l) t h = let p = both (leb 1 t) (leb t 720) h in (leb-true 1 t (p .0), leb-true t 720 (p .1))
+
+pub gap-back : (b : Best) (t : ℕ) → TightestWithin b t → tightestHeld b t ≡ true
+gap-back None t h = eq-eqb t 0 h
+gap-back (Found c d l) t h = joined (leb 1 t) (leb t 720) (le-leb 1 t (h .0)) (le-leb t 720 (h .1))
+
 -- ---- in so many words
 module _ (j : Job) where
   abbrev k : ℕ
@@ -129,6 +140,7 @@ module _ (j : Job) where
         position = s .within;
         best = best-in (j .levels) (j .best) (s .best-held);
         hues = λ (p : ℕ) (l : p < length (j .hues)). hue-in k (j .best) p (getD (j .hues) p 0) (hues-in (handed k (j .best)) (j .hues) (s .hues-held) p l);
+        tightest = gap-in (j .best) (j .tightest) (s .tightest-held);
       }
 
   unbroken-back : Unbroken j → unbroken j ≡ true
@@ -140,6 +152,7 @@ module _ (j : Job) where
     within = h .position;
     best-held = best-back (j .levels) (j .best) (h .best);
     hues-held = hues-back (handed k (j .best)) (j .hues) (λ (p : ℕ) (l : p < length (j .hues)). hue-back k (j .best) p (getD (j .hues) p 0) (h .hues p l));
+    tightest-held = gap-back (j .best) (j .tightest) (h .tightest);
   })
 
   pub unbroken-exactly : (unbroken j ≡ true) ↔ Unbroken j

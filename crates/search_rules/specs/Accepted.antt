@@ -64,6 +64,11 @@ abbrev pub HueWithin : ℕ → Best → ℕ → ℕ → Type 0
 HueWithin k None p h = h ≡ 0
 HueWithin k (Found c d l) p h = (p < k → h ≤ 719) × (k ≤ p → h ≡ 0)
 
+-- the smallest gap: 0 where there is none so far, else from 1 to 720
+abbrev pub TightestWithin : Best → ℕ → Type 0
+TightestWithin None t = t ≡ 0
+TightestWithin (Found c d l) t = Between 1 720 t
+
 pub record Unbroken (j : Job) : Type 0 where
   pub hue-count : Between 1 16 (j .settings .k)
   pub gap : gapTaken (j .settings .gap) ≡ true
@@ -71,6 +76,7 @@ pub record Unbroken (j : Job) : Type 0 where
   pub position : j .position ≤ j .levels * j .levels
   pub best : BestWithin (j .levels) (j .best)
   pub hues : (p : ℕ) → p < length (j .hues) → HueWithin (j .settings .k) (j .best) p (getD (j .hues) p 0)
+  pub tightest : TightestWithin (j .best) (j .tightest)
 
 -- ---- a step
 -- two rows that are read are taken; none is read where the gap is too small

@@ -1,17 +1,19 @@
--- Document 01, "The job", and Req 05 of document 02: what start and step hand back for every job record, table and work buffer, and what document 01's start did. Definitions only.
+-- Document 01, "The job", and Reqs 05 and 07 of document 02: what start and step hand back for every job record, table and work buffer, and what document 01's start did.
+-- Definitions only.
 use Prim.Native.Nat.{ℕ, zero, suc, _+_, _*_, _/_, _%_}
 use mathlib.Core.Path.{_≡_}
 use mathlib.Core.Bool.{Bool, true, not, _&&_, cond}
 use mathlib.Core.List.{List, [], _∷_}
 use lib.Dec.{leb, ltb, eqb}
 use lib.Ieee.{Float, binary32, add, sub, lt, le}
-use lib.ListN.{length, replicate}
+use lib.ListN.{length, take, replicate}
 use Rattle.limits.specs.Answers.{Said, value, refused}
 use Rattle.limits.specs.Refusals.{number}
 use Rattle.limits.specs.Taken.{f32Of, hueCountTaken, gapTaken, entryTaken, every}
 use Rattle.gamut.specs.Gamut.{levelOf}
 use Rattle.gamut.specs.Table.{levelsIn, rowAt, tableTaken}
 use Rattle.placement_rules.specs.Placing.{stepFor, workNeeded}
+use Rattle.placement_rules.specs.Gaps.{tightest}
 use Rattle.pair_rules.specs.Rows.{leastRow}
 use Rattle.pair_rules.specs.Pair as pair
 use Rattle.pair_rules.specs.Pair.{bestOver, none, found}
@@ -32,9 +34,9 @@ gapStarts gap = gapTaken gap && not (lt gap (f32Of 40))
 abbrev pub gapHeld : Float → Bool
 gapHeld gap = gapTaken gap
 
--- "position 0, none", hues all zero
+-- "position 0, none", hues all zero, and so is the smallest gap
 abbrev pub begun : Settings → ℕ → Job
-begun s levels = record { settings = s; levels = levels; position = 0; best = None; hues = replicate 16 0 }
+begun s levels = record { settings = s; levels = levels; position = 0; best = None; hues = replicate 16 0; tightest = 0 }
 
 -- "Start checks 1, 2, 6, 7 over the whole table.", in front of what a good call says, with this test of the gap
 unfoldable pub startCheckedBy : {A : Type 0} → (Float → Bool) → Settings → List Float → Said A → Said A
@@ -71,6 +73,11 @@ huesHeld n [] = true
 huesHeld zero (h ∷ hs) = eqb h 0 && huesHeld zero hs
 huesHeld (suc n) (h ∷ hs) = leb h 719 && huesHeld n hs
 
+-- Req 07: "A job with none so far carries 0, any other 1 to 720, else it is broken"
+abbrev pub tightestHeld : Best → ℕ → Bool
+tightestHeld None t = eqb t 0
+tightestHeld (Found c d l) t = leb 1 t && leb t 720
+
 -- every field is in its range, and the position is not above levels²
 unfoldable pub unbroken : Job → Bool
 unbroken j =
@@ -79,7 +86,8 @@ unbroken j =
     && (leb 1 (j .levels)
     && (leb (j .levels) 169
     && (leb (j .position) (j .levels * j .levels)
-    && (bestHeld (j .levels) (j .best) && huesHeld (handed (j .settings .k) (j .best)) (j .hues))))))
+    && (bestHeld (j .levels) (j .best)
+    && (huesHeld (handed (j .settings .k) (j .best)) (j .hues) && tightestHeld (j .best) (j .tightest)))))))
 
 -- ---- step
 -- "Step p takes dark index p / levels and light index p mod levels."
@@ -105,16 +113,16 @@ beats c (Found b d l) = lt b c
 
 -- only the position moves on
 abbrev pub movedOn : Job → Job
-movedOn j = record { settings = j .settings; levels = j .levels; position = j .position + 1; best = j .best; hues = j .hues }
+movedOn j = record { settings = j .settings; levels = j .levels; position = j .position + 1; best = j .best; hues = j .hues; tightest = j .tightest }
 
--- the position moves on, and the best is replaced
-abbrev pub replaced : Job → Float → ℕ → ℕ → List ℕ → Job
-replaced j c d l hues = record { settings = j .settings; levels = j .levels; position = j .position + 1; best = Found c d l; hues = hues }
+-- the position moves on, and the best is replaced, with its hues and their smallest gap
+abbrev pub replaced : Job → Float → ℕ → ℕ → List ℕ → ℕ → Job
+replaced j c d l hues t = record { settings = j .settings; levels = j .levels; position = j .position + 1; best = Found c d l; hues = hues; tightest = t }
 
 -- the job after a pair whose best is this
 abbrev pub afterPair : Job → ℕ → ℕ → pair.Best → Job
 afterPair j d l none = movedOn j
-afterPair j d l (found c hues) = cond (beats c (j .best)) (replaced j c d l hues) (movedOn j)
+afterPair j d l (found c hues) = cond (beats c (j .best)) (replaced j c d l hues (tightest 720 (take (j .settings .k) hues))) (movedOn j)
 
 -- the best of the pair of levels d and l, from the job's floor
 unfoldable pub pairBest : Job → List Float → ℕ → ℕ → pair.Best

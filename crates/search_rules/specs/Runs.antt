@@ -13,6 +13,7 @@ use Rattle.limits.specs.Taken.{f32Of}
 use Rattle.halving.specs.Patterns.{next}
 use Rattle.gamut.specs.Table.{levelsIn, rowAt}
 use Rattle.placement_rules.specs.Placing.{stepFor}
+use Rattle.placement_rules.specs.Gaps.{tightest}
 use Rattle.pair_rules.specs.Rows.{common}
 use Rattle.pair_rules.specs.Limit.{Hues}
 use Rattle.search_rules.specs.declared.Settings.{Settings}
@@ -110,6 +111,9 @@ pub record Promise (t : List Float) (s : Settings) (n : ℕ) (job : Job) : Type 
   -- "'None so far' is said exactly when no choice has a common chroma of 35 or more."
   pub none-said : job .best ≡ None → (x : Choice t s n) → le (f32Of 35) (commonOf t (x .dark) (x .light) (x .hues)) ≡ true → ⊥
   pub none-meant : ((x : Choice t s n) → le (f32Of 35) (commonOf t (x .dark) (x .light) (x .hues)) ≡ true → ⊥) → job .best ≡ None
+  -- Req 07: "after every list of demand 3 it is that of the hues handed out"; "A job with none so far carries 0"
+  pub tightest-is : (c : Float) (d l : ℕ) → job .best ≡ Found c d l → job .tightest ≡ tightest 720 (take (s .k) (job .hues))
+  pub tightest-none : job .best ≡ None → job .tightest ≡ 0
 
 -- ---- a whole search as such a list
 -- so many steps over a table with one work buffer

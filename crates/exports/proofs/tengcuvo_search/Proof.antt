@@ -1,6 +1,6 @@
 -- `exports::tengcuvo_search` meets its contract, by what `search::search` says of its answer, the job and the work buffer. Assumes nothing.
 use mathlib.Core.Path.{_≡_, sym, ap, _∙_}
-use mathlib.Core.List.{List}
+use mathlib.Core.List.{List, [], _∷_}
 use Prim.Native.Nat.{ℕ}
 use lib.Ieee.{Float}
 use borrow.Author.Needs.{needs}
@@ -10,7 +10,7 @@ use Rattle.search_rules.specs.declared.Best.{Best}
 use Rattle.search_rules.specs.declared.Best.the-variants.{None, Found}
 use Rattle.search_rules.specs.declared.Job.{Job}
 use Rattle.search_rules.specs.Job.{answers}
-use Rattle.exports.specs.Numbers.{handed, bestHands, searchHands}
+use Rattle.exports.specs.Numbers.{handed, bestHands, searchHands, searchGap}
 use Rattle.exports.proofs.tengcuvo_search.Statement.{statement}
 use Rattle.exports.proofs.tengcuvo_search.Tie as tie
 
@@ -24,6 +24,13 @@ accepted-gives {j} hues levels chroma told e = sym (ap (λ x. bestHands x (j .hu
 
 refused-gives : {m n : ℕ} {s : Said Job} (hues levels : List ℕ) (chroma : List Float) → m ≡ n → refused n ≡ s → handed m hues levels chroma ≡ searchHands s hues levels chroma
 refused-gives hues levels chroma given e = ap (λ x. handed x hues levels chroma) given ∙ ap (λ s. searchHands s hues levels chroma) e
+
+-- ---- the smallest gap, by what is said
+gap-given : {j : Job} {s : Said Job} (old : List ℕ) → value j ≡ s → j .tightest ∷ [] ≡ searchGap s old
+gap-given old e = ap (λ s. searchGap s old) e
+
+gap-left : {n : ℕ} {s : Said Job} (old : List ℕ) → refused n ≡ s → old ≡ searchGap s old
+gap-left old e = ap (λ s. searchGap s old) e
 
 blank-requires : tie.Need-blank-requires
 blank-requires c κs = search needs
@@ -55,23 +62,26 @@ same-length c = search needs
 returns : tie.Need-returns
 returns c =
     let call = c .before .before .before .before .before .before .before .before .search in
-    (refused-gives _ _ _ (c .number .ensures) (said (call .result .job) (c .before .before .answer .given .1) (call .ensures .0 .says)), call .ensures .1)
+    let e = said (call .result .job) (c .before .before .answer .given .1) (call .ensures .0 .says) in
+    (refused-gives _ _ _ (c .number .ensures) e, (gap-left _ e, call .ensures .1))
 
 same-length-2 : tie.Need-same-length-2
 same-length-2 c = search needs
 
 returns-2 : tie.Need-returns-2
 returns-2 c =
-    let call = c .before .before .before .before .before .before .before .before .before .search in
-    (accepted-gives {b = None} _ _ _ (c .before .enum-told2 .given .1) (said (call .result .job) (c .before .before .before .enum-told .given .1) (call .ensures .0 .says)), call .ensures .1)
+    let call = c .before .before .before .before .before .before .before .before .before .before .search in
+    let e = said (call .result .job) (c .before .before .before .before .enum-told .given .1) (call .ensures .0 .says) in
+    (accepted-gives {b = None} _ _ _ (c .before .enum-told2 .given .1) e, (gap-given _ e, call .ensures .1))
 
 same-length-3 : tie.Need-same-length-3
 same-length-3 c = search needs
 
 returns-3 : tie.Need-returns-3
 returns-3 c =
-    let call = c .before .before .before .before .before .before .before .before .before .before .before .search in
-    (accepted-gives {b = Found _ _ _} _ _ _ (c .before .before .before .best .given .1) (said (call .result .job) (c .before .before .before .before .before .enum-told .given .1) (call .ensures .0 .says)), call .ensures .1)
+    let call = c .before .before .before .before .before .before .before .before .before .before .before .before .search in
+    let e = said (call .result .job) (c .before .before .before .before .before .before .enum-told .given .1) (call .ensures .0 .says) in
+    (accepted-gives {b = Found _ _ _} _ _ _ (c .before .before .before .best .given .1) e, (gap-given _ e, call .ensures .1))
 
 pub tengcuvo-search-spec : {M : Type 1} → statement M
 tengcuvo-search-spec =

@@ -1,4 +1,4 @@
--- `handing::place` meets its contract, by what `placement::feasible` says of its answer, the hues and the work buffer. Assumes nothing.
+-- `handing::place` meets its contract, by what `placement::feasible` says of its answer, the hues, their smallest gap and the work buffer. Assumes nothing.
 use mathlib.Core.Path.{_≡_, sym, ap, _∙_}
 use mathlib.Core.List.{List}
 use Prim.Native.Nat.{ℕ}
@@ -8,6 +8,7 @@ use Rattle.placement_rules.specs.declared.Answer.{Answer}
 use Rattle.placement_rules.specs.Ring.{Places, nowhere, placed}
 use Rattle.placement_rules.specs.Placing.{huesBeside, answers}
 use Rattle.handing.specs.Numbers.{placeNumber, huesAfter}
+use Rattle.handing.proofs.Hands.{gap-given, gap-left}
 use Rattle.handing.proofs.place.Statement.{statement}
 use Rattle.handing.proofs.place.Tie as tie
 
@@ -48,18 +49,20 @@ same-length c = search needs
 
 returns : tie.Need-returns
 returns c =
-    let call = c .before .before .before .before .before .feasible in
+    let call = c .before .before .before .before .before .before .feasible in
     let found = call .ensures in
-    (placed-gives _ (said (call .result .hues) (c .enum-told .given .1) (found .0 .0)), found .1)
+    let e = said (call .result .hues) (c .before .enum-told .given .1) (found .0 .0) in
+    (placed-gives _ e, (gap-given _ e (found .1 .0), found .1 .1))
 
 same-length-2 : tie.Need-same-length-2
 same-length-2 c = search needs
 
 returns-2 : tie.Need-returns-2
 returns-2 c =
-    let call = c .before .before .before .before .before .feasible in
+    let call = c .before .before .before .before .before .before .feasible in
     let found = call .ensures in
-    (nowhere-gives _ (said (call .result .hues) (c .enum-told2 .given .1) (found .0 .0)) (found .0 .1), found .1)
+    let e = said (call .result .hues) (c .before .enum-told2 .given .1) (found .0 .0) in
+    (nowhere-gives _ e (found .0 .1), (gap-given _ e (found .1 .0), found .1 .1))
 
 same-length-3 : tie.Need-same-length-3
 same-length-3 c = search needs
@@ -68,8 +71,9 @@ returns-3 : tie.Need-returns-3
 returns-3 c =
     let call = c .before .before .before .before .before .before .before .feasible in
     let found = call .ensures in
-    let kept = refused-gives _ (said (call .result .hues) (c .before .before .answer .given .1) (found .0 .0)) in
-    ((c .number .ensures ∙ kept .0, kept .1), found .1)
+    let e = said (call .result .hues) (c .before .before .answer .given .1) (found .0 .0) in
+    let kept = refused-gives _ e in
+    ((c .number .ensures ∙ kept .0, kept .1), (gap-left _ _ e, found .1 .1))
 
 pub place-spec : {M : Type 1} → statement M
 place-spec =

@@ -3,8 +3,8 @@ use mathlib.Core.Path.{refl, ap, _∙_}
 use lib.Ieee.{ofBits, ofInt, nanBits}
 use lib.ListN.{length}
 use borrow.Author.Needs.{needs}
-use Rattle.pair_rules.specs.Pair.{huesBeside}
-use Rattle.level_set.proofs.Choosing.{something, nothing}
+use Rattle.pair_rules.specs.Pair.{huesBeside, tightestBeside}
+use Rattle.level_set.proofs.Choosing.{gap-round, something, nothing}
 use Rattle.level_set.proofs.best.Statement.{statement}
 use Rattle.level_set.proofs.best.Tie as tie
 
@@ -47,7 +47,8 @@ returns c =
     let s = l .before .before .before .before .before in
     let a = s .args in
     let e = something (a .k) (a .step) (a .table .now) (a .levels .now) (length (a .work .now)) (s .pre) _ (l .lower-all .ensures) (m .largest .result) (m .largest .ensures) (i .if1 .taken) in
-    record { says = f .best-for-row .ensures .0 .0 ∙ e; beside = f .best-for-row .ensures .0 .1 ∙ ap huesBeside e }
+    let given = f .best-for-row .ensures in
+    record { says = given .0 .0 ∙ e; beside = given .0 .1 ∙ ap huesBeside e; tightest-is = gap-round (a .k) (a .step) (a .table .now) (a .levels .now) (length (a .work .now)) (s .pre) _ (l .lower-all .ensures) (f .best-for-row .result .tightest) e (given .1 .0) }
 
 returns-2 : tie.Need-returns-2
 unfolding ofBits ofInt
@@ -57,7 +58,7 @@ returns-2 c =
     let s = l .before .before .before .before .before in
     let a = s .args in
     let e = nothing (a .k) (a .step) (a .table .now) (a .levels .now) (length (a .work .now)) (s .pre) _ (l .lower-all .ensures) (m .largest .result) (m .largest .ensures) (c .if1 .left) in
-    record { says = e; beside = ap huesBeside e }
+    record { says = e; beside = ap huesBeside e; tightest-is = ap (tightestBeside 720 (a .k)) e }
 
 pub best-spec : {M : Type 1} → statement M
 best-spec =

@@ -76,7 +76,8 @@ returns c =
     let s = f .before .before .before .before .before in
     let a = s .args in
     let rows = a .a .now ∷ a .b .now ∷ [] in
-    subst (λ (row : List Float). Gives (t .from-floor .result) (bestOver (a .k) (a .step) (a .floor) row)) (front _ _ (leastRow rows) (length (a .a .now)) (f .lesser-row .ensures .0) (least-long rows)) (t .from-floor .ensures)
+    subst (λ (n : ℕ). Gives n (a .k) (t .from-floor .result) (bestOver (a .k) (a .step) (a .floor) (leastRow rows))) (least-long rows)
+    (subst (λ (row : List Float). Gives (length row) (a .k) (t .from-floor .result) (bestOver (a .k) (a .step) (a .floor) row)) (front _ _ (leastRow rows) (length (a .a .now)) (f .lesser-row .ensures .0) (least-long rows)) (t .from-floor .ensures))
 
 pub best-spec : {M : Type 1} → statement M
 best-spec =

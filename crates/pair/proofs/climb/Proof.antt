@@ -30,7 +30,7 @@ returns c =
     let a = s .args in
     let met = floor-met (s .pre) (subst T (sym (s .good .1 .1 .1 .0 .1)) tt) in
     let no = not-placed-at (a .k) (a .step) (a .row .now) (length (a .work .now)) (a .floor) (s .pre .fine) met (f .feasible .result .answer) (f .feasible .result .hues) (f .feasible .ensures .0 .0) (sym (p .is-placed .ensures) ∙ not-true _ (c .before .if1 .taken)) in
-    subst (Gives (c .nothing .result)) (sym (none-there (a .k) (a .step) (a .row .now) (a .floor) no)) (c .nothing .ensures)
+    subst (Gives (length (a .row .now)) (a .k) (c .nothing .result)) (sym (none-there (a .k) (a .step) (a .row .now) (a .floor) no)) (c .nothing .ensures (length (a .row .now)) (a .k))
 
 rounds-requires : tie.Need-rounds-requires
 rounds-requires c κs =
@@ -40,7 +40,7 @@ rounds-requires c κs =
     let a = s .args in
     let met = floor-met (s .pre) (subst T (sym (s .good .1 .1 .1 .0 .1)) tt) in (
       subst (λ (n : ℕ). Ready (a .k) (a .step) (a .floor) (a .most) (a .row .now) n) (search needs) (s .pre),
-      placed-at (a .k) (a .step) (a .row .now) (length (a .work .now)) (a .floor) (s .pre .fine) met (f .feasible .result .answer) (f .feasible .result .hues) (f .feasible .ensures .0 .0) (sym (p .is-placed .ensures) ∙ not-false _ (c .before .before .if1 .left)),
+      placed-at (a .k) (a .step) (a .row .now) (length (a .work .now)) (a .floor) (s .pre .fine) met (f .feasible .result .answer) (f .feasible .result .hues) (f .feasible .ensures .0 .0) (f .feasible .result .tightest) (f .feasible .ensures .1 .0) (sym (p .is-placed .ensures) ∙ not-false _ (c .before .before .if1 .left)),
     )
 
 same-length-2 : tie.Need-same-length-2

@@ -15,17 +15,17 @@ use Rattle.pair.proofs.rounds.Statement.{statement}
 use Rattle.pair.proofs.rounds.Tie as tie
 
 abbrev Inv-loop : tie.InvT-loop
-Inv-loop row k step floor most work₀ at₀ i₀ work at i = (i ≤ 30) × (length work ≡ length work₀) × Climbed k step row (length work₀) floor most at i
+Inv-loop row k step floor most apart work₀ at₀ i₀ work at i = (i ≤ 30) × (length work ≡ length work₀) × Climbed k step row (length work₀) floor most at i
 
 abbrev μ-loop : tie.MeasureT-loop
-μ-loop row k step floor most work₀ at₀ i₀ work at i = 30 - i
+μ-loop row k step floor most apart work₀ at₀ i₀ work at i = 30 - i
 
 loop-holds : tie.Need-loop-holds Inv-loop μ-loop
 loop-holds c =
     let s = c .before .before in
     let low = floor-met (s .pre .0) (subst T (sym (s .good .1 .1 .1 .0 .1)) tt) in
     let high = most-met (s .pre .0) (subst T (sym (s .good .1 .1 .1 .1 .0 .1)) tt) in
-    (omega arith, refl, begin (s .pre .0) (s .args .hues) low high (s .pre .1))
+    (omega arith, refl, begin (s .pre .0) (s .args .hues) (s .args .apart) low high (s .pre .1))
 
 turn-requires : tie.Need-turn-requires Inv-loop μ-loop
 turn-requires c κs =
@@ -63,7 +63,7 @@ returns c =
     let l = e .before in
     let s = l .before .before .before in
     let all : l .loop .at .still ≡ false → 30 ≤ l .loop .i = λ f. ⊎-elim (λ u. never (sym f ∙ not-false _ (u .2 .left))) (λ u. let h = u .left in omega arith) (e .loop-test .came) in
-    subst (Gives (c .found .result)) (sym (at-last (s .pre .0) (l .loop .inv .2) (s .pre .1 .passes) all)) (c .found .ensures)
+    subst (Gives (length (s .args .row .now)) (s .args .k) (c .found .result)) (sym (at-last (s .pre .0) (l .loop .inv .2) (s .pre .1 .passes) all)) (c .found .ensures (length (s .args .row .now)) (s .args .k) (l .loop .inv .2 .stands .there .tightest-is))
 
 pub rounds-spec : {M : Type 1} → statement M
 rounds-spec =

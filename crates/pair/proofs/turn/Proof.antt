@@ -9,7 +9,7 @@ use borrow.Author.Needs.{needs}
 use borrow.Author.Tests.{eqb-true}
 use Rattle.halving.specs.Midpoint.{midpoint}
 use Rattle.halving.proofs.Meeting.{Met, no-nan}
-use Rattle.placement_rules.specs.Placing.{placementSays, answers}
+use Rattle.placement_rules.specs.Placing.{placementSays, tightestBeside, answers}
 use Rattle.pair_rules.specs.Pair.{placeable}
 use Rattle.pair.specs.Inner.{There, Turned}
 use Rattle.pair.proofs.Climbing.{placed-at, not-placed-at, mid-met, at-low, up, down}
@@ -58,8 +58,11 @@ module _ (p : tie.After-is-placed) where
   says : answers (f .feasible .result .answer) (f .feasible .result .hues) ≡ placementSays (s .args .k) (s .args .step) c₀ (s .args .row .now) (length (s .args .work .now))
   says = f .feasible .ensures .0 .0 ∙ ap (λ (c : Float). placementSays (s .args .k) (s .args .step) c (s .args .row .now) (length (s .args .work .now))) (m .midpoint .ensures)
 
-  yes : p .is-placed .result ≡ true → There (s .args .k) (s .args .step) (s .args .row .now) c₀ (f .feasible .result .hues)
-  yes t = placed-at (s .args .k) (s .args .step) (s .args .row .now) (length (s .args .work .now)) (s .args .at .lo) (s .pre .fine) (mid-met (s .pre)) (f .feasible .result .answer) (f .feasible .result .hues) says (sym (p .is-placed .ensures) ∙ t)
+  apart : f .feasible .result .tightest ≡ tightestBeside (length (s .args .row .now)) (s .args .k) (placementSays (s .args .k) (s .args .step) c₀ (s .args .row .now) (length (s .args .work .now)))
+  apart = f .feasible .ensures .1 .0 ∙ ap (λ (c : Float). tightestBeside (length (s .args .row .now)) (s .args .k) (placementSays (s .args .k) (s .args .step) c (s .args .row .now) (length (s .args .work .now)))) (m .midpoint .ensures)
+
+  yes : p .is-placed .result ≡ true → There (s .args .k) (s .args .step) (s .args .row .now) c₀ (f .feasible .result .hues) (f .feasible .result .tightest)
+  yes t = placed-at (s .args .k) (s .args .step) (s .args .row .now) (length (s .args .work .now)) (s .args .at .lo) (s .pre .fine) (mid-met (s .pre)) (f .feasible .result .answer) (f .feasible .result .hues) says (f .feasible .result .tightest) apart (sym (p .is-placed .ensures) ∙ t)
 
   no : p .is-placed .result ≡ false → placeable (s .args .k) (s .args .step) (s .args .row .now) c₀ ≡ false
   no t = not-placed-at (s .args .k) (s .args .step) (s .args .row .now) (length (s .args .work .now)) (s .args .at .lo) (s .pre .fine) (mid-met (s .pre)) (f .feasible .result .answer) (f .feasible .result .hues) says (sym (p .is-placed .ensures) ∙ t)
@@ -70,7 +73,7 @@ same-length c = search needs
 returns-2 : tie.Need-returns-2
 returns-2 c =
     let p = c .before .before in
-    rw (m p .midpoint .ensures) (up (s p .pre) (f p .feasible .result .hues) (yes p (c .before .if2 .taken)))
+    rw (m p .midpoint .ensures) (up (s p .pre) (f p .feasible .result .hues) (f p .feasible .result .tightest) (yes p (c .before .if2 .taken)))
 
 float-to-bits-still : tie.Need-float-to-bits-still
 float-to-bits-still c = rw (no-nan (mid (m (c .before)))) tt

@@ -5,7 +5,7 @@ use borrow.Author.Needs.{needs}
 use denote.Ref.{now}
 use lib.ListN.{length}
 use Rattle.limits.proofs.Checks.{said-twice}
-use Rattle.placement_rules.specs.Placing.{workNeeded, huesBeside}
+use Rattle.placement_rules.specs.Placing.{workNeeded, huesBeside, tightestBeside}
 use Rattle.placement.proofs.Checking.{asked, passed, placing, refusing}
 use Rattle.placement.proofs.feasible.Statement.{statement}
 use Rattle.placement.proofs.feasible.Tie as tie
@@ -34,7 +34,7 @@ returns : tie.Need-returns
 returns c =
     let a = c .before .before .before .before .before .before .args in
     let e = refusing (a .k) (a .step) (a .c) (now (a .m)) (length (now (a .work))) (c .before .before .before .check .result) (c .before .checked .given .0 .0) (c .before .checked .given .1) (c .before .before .before .check .ensures) in
-    ((sym e, sym (ap huesBeside e)), λ w again. refl)
+    ((sym e, sym (ap huesBeside e)), (sym (ap (tightestBeside (length (now (a .m))) (a .k)) e), λ w again. refl))
 
 same-length : tie.Need-same-length
 same-length c = search needs
@@ -44,7 +44,7 @@ returns-2 c =
     let a = c .before .before .before .before .before .before .before .before .before .args in
     let e = placing (a .k) (a .step) (a .c) (now (a .m)) (length (now (a .work))) (c .before .before .before .before .before .before .check .result) (c .before .before .before .before .enum-told .given .1) (c .before .before .before .before .before .before .check .ensures) in
     let given = c .before .before .place .ensures in
-    ((given .says ∙ sym e, given .beside ∙ sym (ap huesBeside e)), λ w again. said-twice e again)
+    ((given .says ∙ sym e, given .beside ∙ sym (ap huesBeside e)), (given .tightest-is ∙ sym (ap (tightestBeside (length (now (a .m))) (a .k)) e), λ w again. said-twice e again))
 
 pub feasible-spec : {M : Type 1} → statement M
 feasible-spec =

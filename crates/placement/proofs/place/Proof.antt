@@ -1,5 +1,6 @@
 -- `placement::place` meets its contract: where an index is allowed the table is filled and the starts are tried, and where none is nothing is placed. Assumes nothing.
 use mathlib.Core.Path.{sym, ap, _∙_}
+use lib.ListN.{length}
 use borrow.Author.Needs.{needs}
 use Rattle.placement_rules.specs.Placing.{sixteen}
 use Rattle.placement.proofs.Table.{is-there, is-none}
@@ -21,7 +22,7 @@ returns c =
     let s = f .before .before .before in
     let row = s .args .m .now in
     let none = is-none row (s .args .c) (s .pre .0 .short) (sym (t .if1 .taken) ∙ f .first-allowed .ensures) in
-    gives-none (c .nowhere .result) _ (ap sixteen (none-allowed row (s .args .c) (s .args .k) (s .args .step) (s .pre .0) none)) (c .nowhere .ensures)
+    gives-none (length row) (s .args .k) (c .nowhere .result) _ (ap sixteen (none-allowed row (s .args .c) (s .args .k) (s .args .step) (s .pre .0) none)) (c .nowhere .ensures (length row) (s .args .k))
 
 fill-requires : tie.Need-fill-requires
 fill-requires c κs =

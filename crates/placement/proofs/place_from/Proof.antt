@@ -14,7 +14,8 @@ use Rattle.placement_rules.specs.Placing.{allowedAt, sixteen}
 use Rattle.placement.specs.Inner.{Gives}
 use Rattle.placement_rules.proofs.Earliest.{from}
 use Rattle.placement.proofs.Table.{allowed-there, in-one-round}
-use Rattle.placement.proofs.Placing.{stored, sixteen-stored, store-one, store-none, too-late, none-left, one-on, closed, open-end, at-start, not-there, gives, gives-none}
+use Rattle.placement.proofs.Placing.{stored, sixteen-stored, store-one, store-none, too-late, none-left, one-on, closed, open-end, at-start, not-there, gives-none}
+use Rattle.placement.proofs.Gaps.{all-below}
 use Rattle.placement.proofs.place_from.Statement.{statement}
 use Rattle.placement.proofs.place_from.Tie as tie
 
@@ -31,12 +32,12 @@ sizes : (l : tie.At-loop Inv-loop μ-loop) → (l .before .before .before .befor
 sizes l = let s = l .before .before .before .before .before in (s .pre .1 .1, s .pre .0 .within, s .pre .0 .short, l .loop .inv .3, l .loop .inv .2)
 
 -- where the rest of the definition gives none, the whole does
-ended : (l : tie.At-loop Inv-loop μ-loop) (r : Placement) → (let s = l .before .before .before .before .before in onward (allowedAt (s .args .m .now) (s .args .c)) (s .args .step) (s .args .start + length (s .args .m .now)) (s .args .k - l .loop .at) (l .loop .cur)) ≡ nowhere → Gives r nowhere
-    → (let s = l .before .before .before .before .before in Gives r (reduced (length (s .args .m .now)) (fromStart (allowedAt (s .args .m .now) (s .args .c)) (length (s .args .m .now)) (s .args .k) (s .args .step) (s .args .start))))
+ended : (l : tie.At-loop Inv-loop μ-loop) (r : Placement) → (let s = l .before .before .before .before .before in onward (allowedAt (s .args .m .now) (s .args .c)) (s .args .step) (s .args .start + length (s .args .m .now)) (s .args .k - l .loop .at) (l .loop .cur)) ≡ nowhere → ((n k : ℕ) → Gives n k r nowhere)
+    → (let s = l .before .before .before .before .before in Gives (length (s .args .m .now)) (s .args .k) r (reduced (length (s .args .m .now)) (fromStart (allowedAt (s .args .m .now) (s .args .c)) (length (s .args .m .now)) (s .args .k) (s .args .step) (s .args .start))))
 ended l r e g =
     let s = l .before .before .before .before .before in
     let n = length (s .args .m .now) in
-    gives-none r _ (sixteen-stored n (fromStart (allowedAt (s .args .m .now) (s .args .c)) n (s .args .k) (s .args .step) (s .args .start)) ∙ sym (l .loop .inv .5) ∙ ap (λ (p : Places). stored n (l .loop .hues) (l .loop .at) p) e) g
+    gives-none n (s .args .k) r _ (sixteen-stored n (fromStart (allowedAt (s .args .m .now) (s .args .c)) n (s .args .k) (s .args .step) (s .args .start)) ∙ sym (l .loop .inv .5) ∙ ap (λ (p : Places). stored n (l .loop .hues) (l .loop .at) p) e) (g n (s .args .k))
 
 mul-if1 : tie.Need-mul-if1 Inv-loop μ-loop
 mul-if1 c = let h = c .before .before .pre .1 .1 in let k = c .before .before .pre .0 .short in omega arith
@@ -53,7 +54,7 @@ returns c =
     let s = t .before .before .before .before in
     let row = s .args .m .now in
     let f : allowedAt row (s .args .c) (s .args .start) ≡ false = allowed-there row (s .args .c) (s .args .start) (s .pre .1 .1) ∙ not-true _ (t .if1 .taken) in
-    gives-none _ _ (ap (λ (p : Places). sixteen (reduced (length row) p)) (not-there (allowedAt row (s .args .c)) (length row) (s .args .k) (s .args .step) (s .args .start) f)) (c .nowhere .ensures)
+    gives-none (length row) (s .args .k) _ _ (ap (λ (p : Places). sixteen (reduced (length row) p)) (not-there (allowedAt row (s .args .c)) (length row) (s .args .k) (s .args .step) (s .args .start) f)) (c .nowhere .ensures (length row) (s .args .k))
 
 add-stop : tie.Need-add-stop Inv-loop μ-loop
 add-stop c = let s = c .before .before .before .before in let h = s .pre .1 .1 in let k = s .pre .0 .short in omega arith
@@ -195,8 +196,10 @@ returns-4 c =
     let e : n .args .k - l .loop .at ≡ 0 = omega arith in
     ended l (c .nowhere4 .result) (ap (λ (x : ℕ). onward (allowedAt row (n .args .c)) (n .args .step) (n .args .start + length row) x (l .loop .cur)) e ∙ open-end (allowedAt row (n .args .c)) (n .args .step) (n .args .start + length row) (l .loop .cur) (t .if4 .taken)) (c .nowhere4 .ensures)
 
-returns-5 : tie.Need-returns-5 Inv-loop μ-loop
-returns-5 c =
+-- at the end what is stored is the whole
+whole : (c : tie.Else4 Inv-loop μ-loop)
+    → (let l = c .before .before in let s = l .before .before .before .before .before in sixteen (reduced (length (s .args .m .now)) (fromStart (allowedAt (s .args .m .now) (s .args .c)) (length (s .args .m .now)) (s .args .k) (s .args .step) (s .args .start))) ≡ placed (l .loop .hues))
+whole c =
     let a = c .before in
     let l = a .before in
     let n = l .before .before .before .before .before in
@@ -206,11 +209,20 @@ returns-5 c =
     let ok = allowedAt row (n .args .c) in
     let e : n .args .k - l .loop .at ≡ 0 = omega arith in
     let end : onward ok (n .args .step) (n .args .start + length row) (n .args .k - l .loop .at) (l .loop .cur) ≡ placed [] = ap (λ (x : ℕ). onward ok (n .args .step) (n .args .start + length row) x (l .loop .cur)) e ∙ closed ok (n .args .step) (n .args .start + length row) (l .loop .cur) (c .if4 .left) in
-    gives (l .loop .hues) _
-    (sixteen-stored (length row) (fromStart ok (length row) (n .args .k) (n .args .step) (n .args .start))
-    ∙ sym (l .loop .inv .5) ∙ ap (λ (p : Places). stored (length row) (l .loop .hues) (l .loop .at) p) end ∙ store-none (length row) (l .loop .hues) (l .loop .at))
+    sixteen-stored (length row) (fromStart ok (length row) (n .args .k) (n .args .step) (n .args .start))
+    ∙ sym (l .loop .inv .5) ∙ ap (λ (p : Places). stored (length row) (l .loop .hues) (l .loop .at) p) end ∙ store-none (length row) (l .loop .hues) (l .loop .at)
+
+placed-requires : tie.Need-placed-requires Inv-loop μ-loop
+placed-requires c κs =
+    let s = c .before .before .before .before .before .before .before in
+    let n = length (s .args .m .now) in
+    let u = s .pre .1 .1 in
+    record { some-hue = s .pre .0 .some-hue; few-hues = s .pre .0 .few-hues; short = s .pre .0 .short; within = λ (p : ℕ) (h : p < s .args .k). all-below n (omega arith) (fromStart (allowedAt (s .args .m .now) (s .args .c)) n (s .args .k) (s .args .step) (s .args .start)) (c .before .before .loop .hues) (whole c) p }
+
+returns-5 : tie.Need-returns-5 Inv-loop μ-loop
+returns-5 c = c .placed .ensures _ (whole (c .before))
 
 pub place-from-spec : {M : Type 1} → statement M
 place-from-spec =
     tie.close
-    (tie.spec Inv-loop μ-loop mul-if1 shared-slice-read-if1 nowhere-requires returns add-stop cast-hues array-write-hues loop-holds add-from nowhere-requires-2 returns-2 ahead-requires nowhere-requires-3 returns-3 reduce-requires mul-hues array-write-hues-2 add-at loop-less loop-again sub-if4 nowhere-requires-4 returns-4 returns-5)
+    (tie.spec Inv-loop μ-loop mul-if1 shared-slice-read-if1 nowhere-requires returns add-stop cast-hues array-write-hues loop-holds add-from nowhere-requires-2 returns-2 ahead-requires nowhere-requires-3 returns-3 reduce-requires mul-hues array-write-hues-2 add-at loop-less loop-again sub-if4 nowhere-requires-4 returns-4 placed-requires returns-5)

@@ -90,7 +90,7 @@ returns-2 c =
     let answer = g .best-of .result .answer in
     let found = c .before .before .before .before .before .answer2 .given in
     let better = sym (c .before .before .before .beats .ensures) ∙ c .before .before .if2 .taken in
-    let e = went-better (a .job) (a .table .now) (a .dark) (a .light) far answer hues (given .0 .0) (found .0 .0) (found .1) better in
+    let e = went-better (a .job) (a .table .now) (a .dark) (a .light) far answer hues (given .0 .0) (found .0 .0) (found .1) (g .best-of .result .tightest) (given .1 .0) better in
     (accepting (a .job) (c .before .replaced .ensures) e (c .accept3 .ensures), λ w again. said-twice e again)
 
 moved-on-requires-3 : tie.Need-moved-on-requires-3
@@ -114,7 +114,7 @@ returns-3 c =
     let why = c .before .before .answer .given in
     let e = went-refused (a .job) (a .table .now) (a .dark) (a .light) far answer hues (given .0 .0) (why .0 .0) (why .1) in
     let f = given-refused (a .job) (a .table .now) (a .dark) (a .light) far answer hues (given .0 .0) (why .0 .0) (why .1) in
-    (refusing e (c .refuse .ensures), λ w again. given .1 (number (why .0 .0)) f)
+    (refusing e (c .refuse .ensures), λ w again. given .1 .1 (number (why .0 .0)) f)
 
 same-length-3 : tie.Need-same-length-3
 same-length-3 c = search needs

@@ -2,7 +2,7 @@
 use mathlib.Core.Path.{_≡_, refl, sym, ap, _∙_}
 use mathlib.Core.Bool.{Bool, true, false, _&&_, and-assoc}
 use mathlib.Core.Logic.{⊎-elim}
-use Prim.Native.Nat.{ℕ, _*_, _≤_, _<_}
+use Prim.Native.Nat.{_*_, _≤_, _<_}
 use native.Mathlib.Nat.{mul-le-mul}
 use native.Mathlib.Omega.{arith}
 use lib.Dec.{leb}
@@ -11,13 +11,17 @@ use borrow.Author.Tests.{le-leb, lt-leb, leb-true, not-true, not-false}
 use Rattle.limits.specs.Taken.{hueCountTaken}
 use Rattle.limits.proofs.HueCount.{both}
 use Rattle.search_rules.specs.declared.Job.{Job}
-use Rattle.search_rules.specs.Job.{gapHeld, bestHeld, handed, huesHeld, unbroken}
+use Rattle.search_rules.specs.Job.{gapHeld, bestHeld, handed, huesHeld, tightestHeld, unbroken}
 use Rattle.search_checks.proofs.is_unbroken.Statement.{statement}
 use Rattle.search_checks.proofs.is_unbroken.Tie as tie
 
+-- the tests of what is handed out
+abbrev handed-held : Job → Bool
+handed-held j = huesHeld (handed (j .settings .k) (j .best)) (j .hues) && tightestHeld (j .best) (j .tightest)
+
 -- the tests of a job, two by two
 abbrev grouped : Job → Bool
-grouped j = (hueCountTaken (j .settings .k) && gapHeld (j .settings .gap)) && ((leb 1 (j .levels) && leb (j .levels) 169) && (leb (j .position) (j .levels * j .levels) && (bestHeld (j .levels) (j .best) && huesHeld (handed (j .settings .k) (j .best)) (j .hues))))
+grouped j = (hueCountTaken (j .settings .k) && gapHeld (j .settings .gap)) && ((leb 1 (j .levels) && leb (j .levels) 169) && (leb (j .position) (j .levels * j .levels) && (bestHeld (j .levels) (j .best) && handed-held j)))
 
 group : (j : Job) → grouped j ≡ unbroken j
 unfolding unbroken
@@ -42,7 +46,7 @@ module _ (j : Job) where
       third h = (rw (one, two, lt-leb (j .position) (j .levels * j .levels) h)) ∙ group j
 
       module _ (three : j .position ≤ j .levels * j .levels) where
-        fourth : (bestHeld (j .levels) (j .best) && huesHeld (handed (j .settings .k) (j .best)) (j .hues)) ≡ unbroken j
+        fourth : (bestHeld (j .levels) (j .best) && handed-held j) ≡ unbroken j
         fourth = (rw (one, two, le-leb (j .position) (j .levels * j .levels) three)) ∙ group j
 
 takes-hue-count-requires : tie.Need-takes-hue-count-requires
@@ -95,21 +99,17 @@ returns-3 c =
 holds-best-requires : tie.Need-holds-best-requires
 holds-best-requires c κs = search needs
 
-handed-requires : tie.Need-handed-requires
-handed-requires c κs = search needs
-
-holds-hues-requires : tie.Need-holds-hues-requires
-holds-hues-requires c κs = search needs
+holds-handed-requires : tie.Need-holds-handed-requires
+holds-handed-requires c κs = search needs
 
 returns-4 : tie.Need-returns-4
 returns-4 c =
-    let b = c .before .before .before in
+    let b = c .before .before in
     let f = b .before .before in
     let e = f .before .before in
     let j = e .before .before .before .before .args .job in
-    c .holds-hues .ensures
-    ∙ ap (λ (n : ℕ). huesHeld n (j .hues)) (c .before .handed .ensures)
-    ∙ ap (λ (t : Bool). t && huesHeld (handed (j .settings .k) (j .best)) (j .hues)) (sym (c .before .before .if6 .taken) ∙ b .holds-best .ensures)
+    c .holds-handed .ensures
+    ∙ ap (λ (t : Bool). t && handed-held j) (sym (c .before .if6 .taken) ∙ b .holds-best .ensures)
     ∙ fourth j (one e) (two f) (b .before .if5 .left)
 
 returns-5 : tie.Need-returns-5
@@ -119,7 +119,7 @@ returns-5 c =
     let e = f .before .before in
     let j = e .before .before .before .before .args .job in
     c .if6 .left
-    ∙ ap (λ (t : Bool). t && huesHeld (handed (j .settings .k) (j .best)) (j .hues)) (sym (c .if6 .left) ∙ b .holds-best .ensures)
+    ∙ ap (λ (t : Bool). t && handed-held j) (sym (c .if6 .left) ∙ b .holds-best .ensures)
     ∙ fourth j (one e) (two f) (b .before .if5 .left)
 
 pub is-unbroken-spec : {M : Type 1} → statement M
@@ -133,7 +133,6 @@ is-unbroken-spec =
     mul-if5
     returns-3
     holds-best-requires
-    handed-requires
-    holds-hues-requires
+    holds-handed-requires
     returns-4
     returns-5)
