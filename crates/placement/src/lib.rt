@@ -27,7 +27,11 @@ fn around(n: usize, i: u16, j: u16) -> usize
     requires { ⌜ (n ≤ 720) × (i < n) ⌝ }
     ensures { λ r. ⌜ r ≡ around n i j ⌝ }
 {
-    if i < j { (j - i) as usize } else { n + j as usize - i as usize }
+    if i < j {
+        (j - i) as usize
+    } else {
+        n + j as usize - i as usize
+    }
 }
 
 // The smaller of two numbers.

@@ -119,7 +119,7 @@ hue-back k (Found c d l) p x h = h
 
 pub gap-in : (b : Best) (t : ℕ) → tightestHeld b t ≡ true → TightestWithin b t
 gap-in None t h = eqb-true t 0 h
-gap-in (Found c d l) t h = let p = both (leb 1 t) (leb t 720) h in (leb-true 1 t (p .0), leb-true t 720 (p .1))
+gap-in (Found c d l) t h = let p = both _ _ h in (leb-true 1 t (p .0), leb-true t 720 (p .1))
 
 pub gap-back : (b : Best) (t : ℕ) → TightestWithin b t → tightestHeld b t ≡ true
 gap-back None t h = eq-eqb t 0 h
