@@ -7,6 +7,10 @@ use case_words::word_at;
 use search::Answer;
 use search::Job;
 use search::Outcome;
+ghost use mathlib.Core.Path.{_≡_};
+ghost use mathlib.Core.Bool.{cond};
+ghost use Prim.Native.Nat.{_*_};
+ghost use lib.Dec.{leb};
 
 // What came of a line: whether it is as it should be, and the job after it.
 pub struct Taken {
@@ -123,7 +127,9 @@ pub fn steps(words: [u32; 24], seed: u32, table: &[f32], work: &mut [u16], lent:
 }
 
 // How many pairs so many levels have, or 0 where no table has so many.
-fn pairs_of(levels: usize) -> usize {
+fn pairs_of(levels: usize) -> usize
+    ensures { λ r. ⌜ r ≡ cond (leb levels 170) (levels * levels) 0 ⌝ }
+{
     if levels <= 170 {
         return levels * levels;
     }

@@ -1,6 +1,7 @@
--- `search_cases::calls::pairs_of` is safe: the square of so few levels fits. Assumes nothing.
+-- `search_cases::calls::pairs_of` meets its contract. Assumes nothing.
 use native.Mathlib.Nat.{mul-le-mul}
 use native.Mathlib.Omega.{arith}
+use borrow.Author.Tests.{le-leb, lt-leb}
 use Rattle.search_cases.proofs.calls.pairs_of.Statement.{statement}
 use Rattle.search_cases.proofs.calls.pairs_of.Tie as tie
 
@@ -11,10 +12,10 @@ mul-result c =
     omega arith
 
 returns : tie.Need-returns
-returns c = tt
+returns c = rw (le-leb (c .before .args .levels) 170 (c .if1 .taken))
 
 returns-2 : tie.Need-returns-2
-returns-2 c = tt
+returns-2 c = rw (lt-leb (c .before .args .levels) 170 (c .if1 .left))
 
 pub pairs-of-spec : {M : Type 1} → statement M
 pairs-of-spec = tie.close (tie.spec mul-result returns returns-2)
