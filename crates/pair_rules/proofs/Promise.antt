@@ -215,19 +215,19 @@ module _ (k step : ℕ) (floor : Float) (rows : List (List Float)) (given : Give
 
 -- ---- the best over rows that are taken, by its cases
 module _ (k step : ℕ) (floor : Float) (row : List Float) where
-  abbrev last : Float
+  abbrev pub last : Float
   last = halve (placeable k step row) 30 floor (largest row)
 
   -- what a chroma that is found says
-  record Found (c : Float) (hues : List ℕ) : Type 0 where
-    reaches : lt (largest row) floor ≡ false
-    starts : placeable k step row floor ≡ true
-    chroma : last ≡ c
-    indices : List ℕ
-    there : placedAt k step row last ≡ placed indices
-    handed : stores (replicate 16 0) 0 indices ≡ hues
+  pub record Found (c : Float) (hues : List ℕ) : Type 0 where
+    pub reaches : lt (largest row) floor ≡ false
+    pub starts : placeable k step row floor ≡ true
+    pub chroma : last ≡ c
+    pub indices : List ℕ
+    pub there : placedAt k step row last ≡ placed indices
+    pub handed : stores (replicate 16 0) 0 indices ≡ hues
 
-  found-is : (c : Float) (hues : List ℕ) → bestOver k step floor row ≡ found c hues → Found c hues
+  pub found-is : (c : Float) (hues : List ℕ) → bestOver k step floor row ≡ found c hues → Found c hues
   unfolding bestOver
   found-is c hues h = go (lt (largest row) floor) (placeable k step row floor) (placedAt k step row last) refl refl refl h
     where

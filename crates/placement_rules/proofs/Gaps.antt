@@ -3,7 +3,7 @@
 -- that a call hands out (`called-least`). Assumes nothing.
 use mathlib.Core.Path.{_≡_, refl, sym, ap, _∙_, subst}
 use mathlib.Core.Logic.{_⊎_, inl, inr}
-use mathlib.Core.Bool.{Bool}
+use mathlib.Core.Bool.{Bool, true}
 use mathlib.Core.List.{List, [], _∷_, map}
 use Prim.Native.Nat.{ℕ, suc, _+_, _-_, _*_, _%_, _≤_, _<_}
 use native.Mathlib.Nat.{le-refl, add-mod-right, le-div-iff-mul-le}
@@ -127,6 +127,16 @@ module _ (ok : ℕ → Bool) (n k step : ℕ) (round : (i : ℕ) → ok (i % n) 
         in-share = le-div-iff-mul-le some-hue .1 (omega arith);
         alone = one;
       }
+
+-- it is about how far apart the indices lie, and not about which are allowed
+pub least-anywhere : (ok : ℕ → Bool) (n k step t : ℕ) (is : List ℕ) → Least ok n k step t is → Least (λ i. true) n k step t is
+least-anywhere ok n k step t is l = record {
+  spaced = record { count = l .spaced .count; within = l .spaced .within; allowed = λ (p : ℕ) (h : p < k). refl; apart = l .spaced .apart };
+  no-further = λ (two : 2 ≤ k) (f : Spaced (λ i. true) n k (suc t) is). l .no-further two (record { count = f .count; within = f .within; allowed = l .spaced .allowed; apart = f .apart });
+  from-step = l .from-step;
+  in-share = l .in-share;
+  alone = l .alone;
+}
 
 -- ---- of what a call hands out
 module _ (k step : ℕ) (c : Float) (row : List Float) (room : ℕ) (hues : List ℕ) where

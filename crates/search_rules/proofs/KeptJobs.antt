@@ -103,15 +103,15 @@ over-on t (c ∷ calls) others j over next = (over .0, over-on t calls others (j
 
 module _ (t : List Float) (f32 : Each F32 t) where
   -- what holds after any list: the promise, of a record that is not broken
-  abbrev Whole : Settings → ℕ → Job → Type 0
+  abbrev pub Whole : Settings → ℕ → Job → Type 0
   Whole s n j = Kept t s n j × (unbroken j ≡ true)
 
-  started : (s : Settings) (j : Job) → beganSays s t ≡ value j → Whole s 0 j
+  pub started : (s : Settings) (j : Job) → beganSays s t ≡ value j → Whole s 0 j
   started s j e =
       let (taken, same) = began-leaves s t j e in
       (began-kept s t j f32 e, subst (λ (x : Job). unbroken x ≡ true) same (begun-unbroken s t taken))
 
-  stepped : (s : Settings) (n : ℕ) (j j' : Job) (room : ℕ) → Whole s n j → stepSays j t room ≡ value j' → Whole s (suc n) j'
+  pub stepped : (s : Settings) (n : ℕ) (j j' : Job) (room : ℕ) → Whole s n j → stepSays j t room ≡ value j' → Whole s (suc n) j'
   stepped s n j j' room (kept, u) e =
       let asked = step-only j t room (j', e) in
       let g = step-goes t (kept .good) j u (asked .unfinished) (kept .promise .levels-are) (kept .chroma-f32) room (one-lap 720 room .1 (asked .room-enough)) in

@@ -12,6 +12,7 @@ pub mod Accepted
 pub mod Goes
 pub mod KeptJobs
 pub mod Filled
+pub mod Closest
 pub mod Example
 pub mod Loops
 pub mod Rooms
