@@ -1,6 +1,6 @@
 -- Req 07: after a list of calls as in demand 3 the record is the same record with its smallest gap worked out from its hues (`kept-filled`): who fills it in lends exactly what
--- the promise is about. And whatever that field was of the record that a list began with, as long as number 15 takes it, every call answers the same and leaves the same but for
--- that field (`others-same`). Assumes nothing.
+-- the promise is about. And whatever that field is of a record, as long as number 15 takes it, a call gives the same refusal or leaves the same job but for that field
+-- (`answers-same`), and so it is after any list of calls (`others-same`). Assumes nothing.
 use mathlib.Core.Path.{_≡_, refl, sym, ap, _∙_, subst}
 use mathlib.Core.Bool.{Bool, true, false, _&&_, cond}
 use mathlib.Core.List.{List, [], _∷_}
@@ -38,11 +38,11 @@ kept-filled t calls j f32 over s n e = ap (withTightest (run calls j)) (promised
 
 -- ---- the other fields
 -- number 15 takes this number where it takes the record's own
-abbrev TakenAlike : Job → ℕ → Type 0
+abbrev pub TakenAlike : Job → ℕ → Type 0
 TakenAlike j x = tightestHeld (j .best) x ≡ tightestHeld (j .best) (j .tightest)
 
 -- two answers alike: the same refusal, or the same job but for that field
-abbrev Alike : Said Job → Said Job → Type 0
+abbrev pub Alike : Said Job → Said Job → Type 0
 Alike (value j') (value j) = (x : ℕ) × ((j' ≡ withTightest j x) × TakenAlike j x)
 Alike (value j') (refused n) = ⊥
 Alike (refused m) (value j) = ⊥
@@ -91,10 +91,10 @@ module _ (j : Job) (x : ℕ) (held : TakenAlike j x) where
       go true false c d new old s = refl
       go false b c d new old s = refl
 
-  called : (c : Call) → Alike (given c (withTightest j x)) (given c j)
-  called (start s t) = same (given (start s t) j)
-  called (began s t) = same (given (began s t) j)
-  called (step t work) = stepped t (length work)
+  pub answers-same : (c : Call) → Alike (given c (withTightest j x)) (given c j)
+  answers-same (start s t) = same (given (start s t) j)
+  answers-same (began s t) = same (given (began s t) j)
+  answers-same (step t work) = stepped t (length work)
 
   -- what it leaves, and what is noted of it
   left : (c : Call) (h : History) (a b : Said Job) → Alike a b
@@ -112,7 +112,7 @@ all-called : (calls : List Call) (h : History) (j : Job) (x : ℕ) → TakenAlik
 unfolding run historyFrom
 all-called [] h j x held = (x, (refl, refl))
 all-called (c ∷ calls) h j x held =
-    let (y, (e, (f, g))) = left j x held c h (given c (withTightest j x)) (given c j) (called j x held c) in
+    let (y, (e, (f, g))) = left j x held c h (given c (withTightest j x)) (given c j) (answers-same j x held c) in
     let (z, (p, q)) = all-called calls (noted c (given c j) h) (jobAfter j (given c j)) y f in
     (z, (ap (run calls) e ∙ p, ap (historyFrom (noted c (given c (withTightest j x)) h) calls) e ∙ ap (λ (k : History). historyFrom k calls (withTightest (jobAfter j (given c j)) y)) g ∙ q))
 

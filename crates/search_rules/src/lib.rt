@@ -29,7 +29,7 @@ pub struct Job {
     // zeros after the first k, and all zero where there is none so far
     pub hues: [u16; 16],
     // the smallest gap of these hues round the circle, in positions, the closing one included; 0 where there is none so far. Whoever
-    // lends a job kept from before its time fills it in; no call does, and number 15 asks for its range alone
+    // lends a job from before there was this field fills it in; no call does, and number 15 asks for its range alone
     pub tightest: usize,
 }
 
