@@ -19,6 +19,7 @@ use Rattle.placement_rules.specs.Placing.{stepFor, stepSaid, stepSays}
 use Rattle.pair_rules.specs.Rows.{leastRow, largest}
 use Rattle.pair_rules.specs.Pair.{Best, none, bestOver, lengthsTaken, alike, entriesTaken, rowsSay, tightestBeside}
 use Rattle.pair_rules.proofs.Rows.{least-long, least-of-one, least-taken}
+use Rattle.pair_rules.proofs.Gaps.{gap-same}
 use Rattle.level_set_rules.specs.Set.{rowsAt, setOver, namedChecked, setChecked, setSays}
 use Rattle.level_set_rules.proofs.Accepted.{named-checks, in-words}
 use Rattle.level_set_rules.proofs.Named.{rows-say, ring, lengths, entries}
@@ -78,7 +79,7 @@ module _ (k step : ℕ) (t : List Float) (levels : List ℕ) (room : ℕ) (asked
 
   -- a smallest gap that goes by the row's length goes by the circle's
   pub gap-round : (gap : ℕ) {x y : Said Best} → x ≡ y → gap ≡ tightestBeside (length row) k x → gap ≡ tightestBeside 720 k y
-  gap-round gap {x} e g = g ∙ ap (λ (n : ℕ). tightestBeside n k x) (ap length is ∙ long) ∙ ap (tightestBeside 720 k) e
+  gap-round gap e g = gap-same k gap (ap length is ∙ long) e g
 
   one-length : lengthsTaken (least ∷ []) ≡ true
   unfolding lengthsTaken alike

@@ -1,17 +1,22 @@
 -- Req 07: the hues beside the best over a row were placed on it, so their smallest gap means what a placement's does (`best-least`). Assumes nothing.
-use mathlib.Core.Path.{_≡_, sym, subst}
+use mathlib.Core.Path.{_≡_, sym, ap, _∙_, subst}
 use mathlib.Core.Bool.{true}
 use mathlib.Core.List.{List}
 use Prim.Native.Nat.{ℕ, _≤_}
 use lib.Ieee.{Float}
 use lib.ListN.{length, take}
+use Rattle.limits.specs.Answers.{Said}
 use Rattle.placement_rules.specs.Gaps.{tightest, Least}
 use Rattle.placement_rules.specs.Placing.{allowedAt}
 use Rattle.placement_rules.proofs.Stored.{first-of}
 use Rattle.placement_rules.proofs.Allowed.{round}
 use Rattle.placement_rules.proofs.Gaps.{least, least-anywhere}
-use Rattle.pair_rules.specs.Pair.{found, placedAt, bestOver}
+use Rattle.pair_rules.specs.Pair.{Best, found, placedAt, bestOver, tightestBeside}
 use Rattle.pair_rules.proofs.Promise.{last, found-is}
+
+-- a smallest gap beside an answer, over rings of one length and answers that are one
+pub gap-same : (k : ℕ) {n m : ℕ} {x y : Said Best} (gap : ℕ) → n ≡ m → x ≡ y → gap ≡ tightestBeside n k x → gap ≡ tightestBeside m k y
+gap-same k {m} {x} gap long e g = g ∙ ap (λ (n : ℕ). tightestBeside n k x) long ∙ ap (tightestBeside m k) e
 
 pub best-least : (k step : ℕ) (floor : Float) (row : List Float) → 1 ≤ k → k ≤ 16 → 1 ≤ step → step ≤ length row → (c : Float) (hues : List ℕ) → bestOver k step floor row ≡ found c hues
     → Least (λ i. true) (length row) k step (tightest (length row) (take k hues)) (take k hues)

@@ -27,29 +27,29 @@ use Rattle.placement_rules.proofs.Checking.{row-checks}
 use Rattle.placement_rules.proofs.Stored.{first-of}
 use Rattle.placement_rules.proofs.Allowed.{round}
 
--- ---- how far one index lies on from another
-up : (n i j : ℕ) → i < j → around n i j ≡ j - i
+-- ---- how far one index lies on from another: before the ring's end, and past it
+pub onward-by : (n i j : ℕ) → i < j → around n i j ≡ j - i
 unfolding around
-up n i j l = rw (lt-ltb i j l)
+onward-by n i j l = rw (lt-ltb i j l)
 
-down : (n i j : ℕ) → j ≤ i → around n i j ≡ n + j - i
+pub round-by : (n i j : ℕ) → j ≤ i → around n i j ≡ n + j - i
 unfolding around
-down n i j l = rw (le-ltb i j l)
+round-by n i j l = rw (le-ltb i j l)
 
 around-within : (n i j : ℕ) → i < n → j < n → (1 ≤ around n i j) × (around n i j ≤ n)
-around-within n i j a b = elim (below-or-not i j) [ inl l ↦ omega (arith, up n i j l) | inr l ↦ omega (arith, down n i j l) ]
+around-within n i j a b = elim (below-or-not i j) [ inl l ↦ omega (arith, onward-by n i j l) | inr l ↦ omega (arith, round-by n i j l) ]
 
 around-apart : (n step i j : ℕ) → Apart n step i j → step ≤ around n i j
-around-apart n step i j h = elim (below-or-not i j) [ inl l ↦ omega (arith, up n i j l) | inr l ↦ omega (arith, down n i j l) ]
+around-apart n step i j h = elim (below-or-not i j) [ inl l ↦ omega (arith, onward-by n i j l) | inr l ↦ omega (arith, round-by n i j l) ]
 
 around-reduced : (n a b : ℕ) → a < b → b ≤ a + n → b < n + n → around n (a % n) (b % n) ≡ b - a
 around-reduced n a b l u t = go (reduce n a (omega arith)) (reduce n b t)
   where
     go : ((a < n) × (a % n ≡ a)) ⊎ ((n ≤ a) × (a % n ≡ a - n)) → ((b < n) × (b % n ≡ b)) ⊎ ((n ≤ b) × (b % n ≡ b - n)) → around n (a % n) (b % n) ≡ b - a
-    go (inl p) (inl q) = rw (p .1, q .1) (up n a b l)
-    go (inl p) (inr q) = let h = q .0 in rw (p .1, q .1) (omega (arith, down n a (b - n) (omega arith)))
+    go (inl p) (inl q) = rw (p .1, q .1) (onward-by n a b l)
+    go (inl p) (inr q) = let h = q .0 in rw (p .1, q .1) (omega (arith, round-by n a (b - n) (omega arith)))
     go (inr p) (inl q) = let h = p .0 in let k = q .0 in omega arith
-    go (inr p) (inr q) = let h = p .0 in let k = q .0 in rw (p .1, q .1) (omega (arith, up n (a - n) (b - n) (omega arith)))
+    go (inr p) (inr q) = let h = p .0 in let k = q .0 in rw (p .1, q .1) (omega (arith, onward-by n (a - n) (b - n) (omega arith)))
 
 -- ---- of any indices
 pub tightest-within : (n : ℕ) (is : List ℕ) → 1 ≤ length is → ((p : ℕ) → p < length is → getD is p 0 < n) → (1 ≤ tightest n is) × (tightest n is ≤ n)
@@ -63,7 +63,7 @@ tightest-within n (i ∷ is) some h = let a = all-of (λ j. j < n) (i ∷ is) h 
 
 pub tightest-one : (n i : ℕ) → tightest n (i ∷ []) ≡ n
 unfolding tightest tightestFrom
-tightest-one n i = omega (arith, down n i i (le-refl i))
+tightest-one n i = omega (arith, round-by n i i (le-refl i))
 
 alone : (n : ℕ) (is : List ℕ) → length is ≡ 1 → tightest n is ≡ n
 alone n [] e = omega arith

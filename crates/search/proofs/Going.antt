@@ -18,6 +18,7 @@ use Rattle.pair_rules.specs.declared.Answer.{Answer}
 use Rattle.pair_rules.specs.declared.Answer.the-variants.{Found, Nothing, Refused}
 use Rattle.pair_rules.specs.Rows.{leastRow}
 use Rattle.pair_rules.specs.Pair.{Best, bestOver, rowsSay, pairSays, tightestBeside, answers}
+use Rattle.pair_rules.proofs.Gaps.{gap-same}
 use Rattle.search_rules.specs.declared.Job.{Job}
 use Rattle.search_rules.specs.Job.{floorOf, qualifies, beats, movedOn, replaced, afterPair, pairBest, searched}
 use Rattle.search.specs.Inner.{pairTightest, pairGiven, Stepped}
@@ -42,9 +43,7 @@ pair-says j table room d l step floor s e f =
 
 -- its smallest gap goes by the circle
 pub gap-round : (j : Job) (table : List Float) (room d l gap : ℕ) {x y : Said Best} → Stepped j table room d l → x ≡ y → gap ≡ tightestBeside (length (part table d)) (j .settings .k) x → gap ≡ pairTightest (j .settings .k) y
-gap-round j table room d l gap {x} s e g =
-    let long : length (part table d) ≡ 720 = ap length (part-row table d) ∙ row-long table (j .levels) d (s .long) (s .dark-in) in
-    g ∙ ap (λ (n : ℕ). tightestBeside n (j .settings .k) x) long ∙ ap (pairTightest (j .settings .k)) e
+gap-round j table room d l gap s e g = gap-same (j .settings .k) gap (ap length (part-row table d) ∙ row-long table (j .levels) d (s .long) (s .dark-in)) e g
 
 -- ---- the job after it
 abbrev after : Job → ℕ → ℕ → Said Best → Said Job

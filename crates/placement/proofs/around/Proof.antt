@@ -1,19 +1,9 @@
 -- `placement::around` meets its contract: its test is that of the definition. Assumes nothing.
-use mathlib.Core.Path.{_≡_}
-use Prim.Native.Nat.{ℕ, _+_, _-_, _≤_, _<_}
+use mathlib.Core.Path.{sym}
 use borrow.Author.Needs.{needs}
-use borrow.Author.Tests.{lt-ltb, le-ltb}
-use Rattle.placement_rules.specs.Gaps.{around}
+use Rattle.placement_rules.proofs.Gaps.{onward-by, round-by}
 use Rattle.placement.proofs.around.Statement.{statement}
 use Rattle.placement.proofs.around.Tie as tie
-
-ahead-by : (n i j : ℕ) → i < j → j - i ≡ around n i j
-unfolding around
-ahead-by n i j h = rw (lt-ltb i j h)
-
-round-by : (n i j : ℕ) → j ≤ i → n + j - i ≡ around n i j
-unfolding around
-round-by n i j h = rw (le-ltb i j h)
 
 sub-result : tie.Need-sub-result
 sub-result c = search needs
@@ -28,10 +18,10 @@ sub-result-2 : tie.Need-sub-result-2
 sub-result-2 c = search needs
 
 returns : tie.Need-returns
-returns c = let a = c .before .args in ahead-by (a .n) (a .i) (a .j) (c .if1 .taken)
+returns c = let a = c .before .args in sym (onward-by (a .n) (a .i) (a .j) (c .if1 .taken))
 
 returns-2 : tie.Need-returns-2
-returns-2 c = let a = c .before .args in round-by (a .n) (a .i) (a .j) (c .if1 .left)
+returns-2 c = let a = c .before .args in sym (round-by (a .n) (a .i) (a .j) (c .if1 .left))
 
 pub around-spec : {M : Type 1} → statement M
 around-spec = tie.close (tie.spec sub-result cast-result add-result sub-result-2 returns returns-2)
