@@ -1,11 +1,22 @@
-// The lines that set directions, and those by which the next case is lent others, or a row of another length.
-pub mod run;
-
+// The lines that set directions, and those by which the next case is lent others, or a row of another length. One that a list
+// may not have is answered.
+use case_lines::answers;
 use case_words::float_at;
 use case_words::size_at;
 use case_words::word_at;
-ghost use mathlib.Core.Path.{_≡_};
-ghost use Rattle.case_directions.specs.Runs.{everyOne};
+use cases::Words;
+
+// dir j cos sin: sets direction j
+pub const DIR: u64 = 0x64_6972;
+
+// bad which j bits: the next case is lent this as cosine (0) or sine (1) j
+pub const BAD: u64 = 0x62_6164;
+
+// len c s: the next case is lent the first c cosines and the first s sines
+pub const LEN: u64 = 0x6c_656e;
+
+// size n: the next case is lent a row of n entries
+pub const SIZE: u64 = 0x7369_7a65;
 
 // The 720 directions.
 pub struct Directions {
@@ -29,11 +40,6 @@ pub struct Lent {
     pub entries: usize,
 }
 
-// Whether there is the direction that the words say.
-pub fn is_one(words: [u32; 24]) -> bool {
-    word_at(words, 0) < 720
-}
-
 impl Directions {
     // Directions that all have this component twice.
     pub fn all(component: f32) -> Directions {
@@ -43,13 +49,15 @@ impl Directions {
         }
     }
 
-    // With the direction that the words say, if there is such a one.
-    pub fn set(mut self, words: [u32; 24]) -> Directions {
+    // With the direction that the words say; one that there is not is answered.
+    pub fn set(mut self, words: Words) -> Directions {
         let j = size_at(words, 0);
         if j < 720 {
             self.cos[j] = float_at(words, 1);
             self.sin[j] = float_at(words, 2);
+            return self;
         }
+        answers::malformed();
         self
     }
 
@@ -68,9 +76,7 @@ impl Directions {
 
 impl Lent {
     // Every direction and a row of as many entries, where nothing waits.
-    pub fn all() -> Lent
-        ensures { λ r. ⌜ r ≡ everyOne ⌝ }
-    {
+    fn all() -> Lent {
         Lent {
             cut: false,
             cosines: 720,
@@ -85,17 +91,17 @@ impl Lent {
     }
 
     // Whether a line waits.
-    pub fn waits(self) -> bool {
+    fn waits(self) -> bool {
         self.cut || self.replaced || self.sized
     }
 
     // Whether a `bad` with these words may come.
-    pub fn takes_bad(self, words: [u32; 24]) -> bool {
+    fn takes_bad(self, words: Words) -> bool {
         !self.replaced && word_at(words, 0) < 2 && word_at(words, 1) < 720
     }
 
     // With another component for the next case.
-    pub fn with_bad(mut self, words: [u32; 24]) -> Lent {
+    fn with_bad(mut self, words: Words) -> Lent {
         self.replaced = true;
         self.which = word_at(words, 0);
         self.place = size_at(words, 1);
@@ -104,12 +110,12 @@ impl Lent {
     }
 
     // Whether a `len` with these words may come, where a case can be lent so many at most.
-    pub fn takes_len(self, words: [u32; 24], most: u32) -> bool {
+    fn takes_len(self, words: Words, most: u32) -> bool {
         !self.cut && word_at(words, 0) <= most && word_at(words, 1) <= most
     }
 
     // With only the first cosines and sines for the next case.
-    pub fn with_len(mut self, words: [u32; 24]) -> Lent {
+    fn with_len(mut self, words: Words) -> Lent {
         self.cut = true;
         self.cosines = size_at(words, 0);
         self.sines = size_at(words, 1);
@@ -117,22 +123,97 @@ impl Lent {
     }
 
     // Whether a `size` with these words may come, where a row can have so many entries at most.
-    pub fn takes_size(self, words: [u32; 24], most: u32) -> bool {
+    fn takes_size(self, words: Words, most: u32) -> bool {
         !self.sized && word_at(words, 0) <= most
     }
 
     // With a row of another length for the next case.
-    pub fn with_size(mut self, words: [u32; 24]) -> Lent {
+    fn with_size(mut self, words: Words) -> Lent {
         self.sized = true;
         self.entries = size_at(words, 0);
         self
     }
 
     // The directions with the component that waits for a place among them, if any does.
-    pub fn lends(self, directions: Directions) -> Directions {
+    fn lends(self, directions: Directions) -> Directions {
         if self.replaced {
             return directions.replaced(self.which, self.place, self.component);
         }
         directions
+    }
+}
+
+// What the lines so far have set.
+pub struct Lending {
+    pub directions: Directions,
+    // what the next case is lent
+    pub lent: Lent,
+}
+
+impl Lending {
+    // No line has come yet.
+    pub fn new() -> Lending {
+        Lending {
+            directions: Directions::all(0.0),
+            lent: Lent::all(),
+        }
+    }
+
+    // With a direction set.
+    pub fn with_dir(mut self, words: Words) -> Lending {
+        let directions = self.directions;
+        let next = directions.set(words);
+        self.directions = next;
+        self
+    }
+
+    // With this lent to the next case, if the line may come.
+    fn lending(mut self, may: bool, lent: Lent) -> Lending {
+        if may {
+            self.lent = lent;
+            return self;
+        }
+        answers::malformed();
+        self
+    }
+
+    // With another component for the next case.
+    pub fn with_bad(self, words: Words) -> Lending {
+        let lent = self.lent;
+        self.lending(lent.takes_bad(words), lent.with_bad(words))
+    }
+
+    // With other numbers of cosines and sines for the next case, up to the most.
+    pub fn with_len(self, words: Words, most: u32) -> Lending {
+        let lent = self.lent;
+        self.lending(lent.takes_len(words, most), lent.with_len(words))
+    }
+
+    // With a row of another length for the next case, up to the most.
+    pub fn with_size(self, words: Words, most: u32) -> Lending {
+        let lent = self.lent;
+        self.lending(lent.takes_size(words, most), lent.with_size(words))
+    }
+
+    // The directions that the next case is lent, if it is lent them all.
+    pub fn lends(self) -> Directions {
+        let lent = self.lent;
+        let directions = self.directions;
+        lent.lends(directions)
+    }
+
+    // With nothing that waits for the next case.
+    pub fn after_case(mut self) -> Lending {
+        let all = Lent::all();
+        self.lent = all;
+        self
+    }
+
+    // Answers a line that still waits for a case at the end.
+    pub fn finish(self) {
+        let lent = self.lent;
+        if lent.waits() {
+            answers::malformed();
+        }
     }
 }

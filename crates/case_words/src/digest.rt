@@ -41,8 +41,3 @@ pub fn with_pattern(digest: u64, bits: u32) -> u64 {
     let third = with_byte(second, bits / 0x1_0000 % 0x100);
     with_byte(third, bits / 0x100_0000)
 }
-
-// The digest that two words say, the high half first.
-pub fn said(high: u32, low: u32) -> u64 {
-    (high as u64) << 32 | low as u64
-}

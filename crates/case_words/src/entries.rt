@@ -1,4 +1,5 @@
 // Entries of a ring or a row, set by the words of a line.
+use cases::Words;
 
 // A ring or a row: its first entries up to its length.
 pub struct Row {
@@ -22,7 +23,7 @@ impl Row {
     }
 
     // With the entries that the words from one of them on say at a place and after it.
-    pub fn put(mut self, at: usize, words: [u32; 24], from: usize, count: usize) -> Row {
+    pub fn put(mut self, at: usize, words: Words, from: usize, count: usize) -> Row {
         let mut entries = self.entries;
         put(&mut entries, at, words, from, count);
         self.entries = entries;
@@ -46,7 +47,7 @@ pub fn put_one(row: &mut [f32], at: usize, entry: f32) {
 }
 
 // Puts the entries that the words from one of them on say at a place and after it.
-pub fn put(row: &mut [f32], at: usize, words: [u32; 24], from: usize, count: usize) {
+pub fn put(row: &mut [f32], at: usize, words: Words, from: usize, count: usize) {
     let mut to = at;
     let mut i = from;
     while i < count {

@@ -1,11 +1,16 @@
-// A reader of case lists.
+// A line of a case list, read byte by byte.
 //
 // A list is text. A line that starts with `#` is a comment, and an empty line says nothing. Any other
-// line is a case: an operation of at most 8 lowercase letters and digits, then at most 24 words of at most
+// line is a case: an operation of at most 8 lowercase letters and digits, then at most 40 words of at most
 // 8 lowercase hexadecimal digits, with one space before each and a newline at the end.
 ghost use mathlib.Core.Path.{_≡_};
-ghost use Rattle.cases.specs.Counts.{countedOf};
 ghost use Rattle.cases.specs.Found.{foundOf, leftOf};
+
+// How many words a line can have.
+pub const MOST: usize = 40;
+
+// The words of a line, zeros after the last.
+pub type Words = [u32; MOST];
 
 // What the bytes of a line have been so far.
 pub enum Stage {
@@ -18,7 +23,7 @@ pub enum Stage {
     // a comment
     Comment,
     // the start of no line that a list may have
-    Spoiled,
+    Unreadable,
 }
 
 // What a line is.
@@ -45,30 +50,11 @@ pub struct Line {
     pub operation: u64,
     pub letters: usize,
     // the words that are complete, and how many there are
-    pub words: [u32; 24],
+    pub words: Words,
     pub count: usize,
     // the word being read, and how many digits of it were read
     pub word: u32,
     pub digits: usize,
-}
-
-// One more than n, or n where that is the greatest number.
-pub fn counted(n: u64) -> u64
-    ensures { λ r. ⌜ r ≡ countedOf n ⌝ }
-{
-    if n < u64::MAX { n + 1 } else { n }
-}
-
-// The place of an operation among names, or their number where it is none of them.
-pub fn place_of(names: &[u64], operation: u64) -> usize {
-    let mut i = 0;
-    while i < names.len() {
-        if names[i] == operation {
-            return i;
-        }
-        i += 1;
-    }
-    i
 }
 
 // Whether an operation may have this byte.
@@ -101,7 +87,7 @@ impl Line {
             ended: false,
             operation: 0,
             letters: 0,
-            words: [0u32; 24],
+            words: [0u32; MOST],
             count: 0,
             word: 0,
             digits: 0,
@@ -131,7 +117,7 @@ impl Line {
             self.letters += 1;
             return self.at(Stage::Operation);
         }
-        self.at(Stage::Spoiled)
+        self.at(Stage::Unreadable)
     }
 
     // With one more digit of the word being read.
@@ -142,23 +128,23 @@ impl Line {
             self.digits += 1;
             return self;
         }
-        self.at(Stage::Spoiled)
+        self.at(Stage::Unreadable)
     }
 
     // With the word being read complete.
     fn with_word(mut self) -> Line {
         let count = self.count;
         if self.digits == 0 {
-            return self.at(Stage::Spoiled);
+            return self.at(Stage::Unreadable);
         }
-        if count < 24 {
+        if count < MOST {
             self.words[count] = self.word;
             self.count = count + 1;
             self.word = 0;
             self.digits = 0;
             return self;
         }
-        self.at(Stage::Spoiled)
+        self.at(Stage::Unreadable)
     }
 
     // With its newline read.
@@ -166,7 +152,7 @@ impl Line {
         let stage = self.stage;
         let mut line = match stage {
             Stage::Words => self.with_word(),
-            Stage::Start | Stage::Operation | Stage::Comment | Stage::Spoiled => self,
+            Stage::Start | Stage::Operation | Stage::Comment | Stage::Unreadable => self,
         };
         line.ended = true;
         line
@@ -197,7 +183,7 @@ impl Line {
                     self.with_digit(byte)
                 }
             }
-            Stage::Comment | Stage::Spoiled => self,
+            Stage::Comment | Stage::Unreadable => self,
         }
     }
 
@@ -206,7 +192,7 @@ impl Line {
     pub fn fed(self, byte: u8) -> Line {
         let mut line = self;
         if line.ended {
-            line = Line::numbered(counted(line.number));
+            line = Line::numbered(std::num::wrapping_add_u64(line.number, 1));
         }
         if byte == b'\n' {
             return line.closed();
@@ -226,7 +212,7 @@ impl Line {
                 Stage::Comment => Found::Nothing,
                 Stage::Operation => Found::Case,
                 Stage::Words => Found::Case,
-                Stage::Spoiled => Found::Malformed,
+                Stage::Unreadable => Found::Malformed,
             };
         }
         Found::Open
@@ -246,7 +232,7 @@ impl Line {
             Stage::Comment => Found::Nothing,
             Stage::Operation => Found::Malformed,
             Stage::Words => Found::Malformed,
-            Stage::Spoiled => Found::Malformed,
+            Stage::Unreadable => Found::Malformed,
         }
     }
 }

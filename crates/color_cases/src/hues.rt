@@ -1,48 +1,37 @@
 // The hues found among the directions.
-use crate::compare;
-use case_directions::run::Run;
-use case_words::word_at;
+use crate::conversions;
+use case_directions::Lending;
+use case_lines::answers;
+use case_lines::answers::Answer;
+use cases::Line;
 use hue::Hue;
 
-// Whether a hue is the one that is expected, or is refused with the number that is.
-fn same_hue(hue: Hue, number: u32, bits: u32) -> bool {
-    match hue {
-        Hue::Degrees(h) => number == 0 && patterns::same_float(h, bits),
-        Hue::Refused(why) => number == why.number() as u32 && bits == 0,
+// What comes out of a hue among these directions.
+fn found(line: Line, cos: &[f32], sin: &[f32]) -> Answer {
+    let words = line.words;
+    match hue::hue_deg(conversions::lab_of(words), cos, sin) {
+        Hue::Degrees(h) => Answer::new().with(0).with_float(h),
+        Hue::Refused(why) => Answer::new().with_byte(why.number()).with(0),
     }
 }
 
-// Whether these directions give the hue that is expected.
-fn among(words: [u32; 24], cos: &[f32], sin: &[f32]) -> bool {
-    let lab = compare::lab_of(words);
-    same_hue(
-        hue::hue_deg(lab, cos, sin),
-        word_at(words, 3),
-        word_at(words, 4),
-    )
-}
-
-// Whether the first cosines and sines alone do.
-fn among_first(
-    words: [u32; 24],
-    cos: [f32; 720],
-    cosines: usize,
-    sin: [f32; 720],
-    sines: usize,
-) -> bool {
+// Answers with the hue among the first cosines and sines.
+fn answer_lent(line: Line, cos: [f32; 720], cosines: usize, sin: [f32; 720], sines: usize) {
     if cosines <= 720 {
         if sines <= 720 {
-            return among(words, &cos[0..cosines], &sin[0..sines]);
+            found(line, &cos[0..cosines], &sin[0..sines]).write(line);
+            return;
         }
     }
-    false
+    answers::malformed();
 }
 
-// Takes a hue, with what waited for it.
-pub fn take_hue(run: Run) -> Run {
-    let lent = run.lent;
-    let all = run.lends();
+// Answers with a hue, with what waited for it.
+pub fn answer(line: Line, lending: Lending) -> Lending {
+    let lent = lending.lent;
+    let all = lending.lends();
     let cos = all.cos;
     let sin = all.sin;
-    run.settled(among_first(run.words(), cos, lent.cosines, sin, lent.sines))
+    answer_lent(line, cos, lent.cosines, sin, lent.sines);
+    lending.after_case()
 }

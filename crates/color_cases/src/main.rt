@@ -1,53 +1,50 @@
-// Replays a list of colour cases, read from standard input, against the crates `color` and `roots`, and
-// compares each result by its bits, where every NaN is the same. It writes the numbers of the first lines
-// that differ with their operations, then how many lines of each operation there are, and at last how
-// many cases were compared, how many of them were wrong on purpose and found so, and how many lines
-// differ. A line that a list may not have differs too.
-mod compare;
+// Answers a list of cases for the crates `roots`, `srgb`, `color`, `hue` and `clipping`: roots, conversions, the gamut test, hues and
+// clipped colours, by their bits, where every NaN is the same. `compare/driver/lists/color.rs` says what the list holds.
+mod conversions;
 mod hues;
 mod operations;
 
-use case_directions::run::Run;
+use case_directions::Lending;
+use case_lines::Reader;
+use case_lines::answers;
+use cases::Line;
 
-// Takes a case. Its operation must be known and have its number of words.
-fn take_case(run: Run) -> Run {
-    let line = run.line();
+// What the next case is lent after a line, which is answered if it is a case.
+fn take_line(line: Line, lending: Lending) -> Lending {
     let operation = line.operation;
-    let place = operations::place_of(operation);
-    if !operations::takes(place, line.count) {
-        return run.formed(false);
-    }
-    let next = run.counting(place, operations::FIRST_CASE);
     let words = line.words;
+    if !operations::takes(operation, line.count) {
+        answers::malformed();
+        return lending;
+    }
     match operation {
-        operations::DIR => next.with_dir(),
-        operations::BAD => next.with_bad(),
-        operations::LEN => next.with_len(720),
-        operations::HUE => hues::take_hue(next),
-        _ => next.agreed(compare::agrees(operation, words)),
+        case_directions::DIR => lending.with_dir(words),
+        case_directions::BAD => lending.with_bad(words),
+        case_directions::LEN => lending.with_len(words, 720),
+        operations::HUE => hues::answer(line, lending),
+        _ => {
+            conversions::answer(line);
+            lending
+        }
     }
 }
 
 // Reads the list to its end. A proved loop ends, so it counts turns down.
-fn take_all() -> Run {
-    let mut run = Run::new();
+fn take_all() -> Lending {
+    let mut reader = Reader::new();
+    let mut lending = Lending::new();
     let mut turns = case_lines::TURNS;
-    while turns > 0 {
-        run = run.turned();
-        if run.done() {
-            return run;
-        }
-        if run.has_case() {
-            run = take_case(run);
+    while turns > 0 && reader.more {
+        reader = reader.read_on();
+        if reader.case {
+            lending = take_line(reader.line, lending);
         }
         turns -= 1;
     }
-    run
+    lending
 }
 
-// Replays the list and says what came of it.
+// Answers the list.
 fn main() {
-    let run = take_all();
-    let names = operations::NAMES;
-    run.finished(b", and a hue is missing").report(&names);
+    take_all().finish();
 }

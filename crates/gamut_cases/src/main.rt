@@ -1,56 +1,82 @@
-// Replays a list of gamut cases, read from standard input, against the crate `gamut`, and compares each
-// result by its bits, where every NaN is the same, and each row by its digest. It writes the numbers of the
-// first lines that differ with their operations, then how many lines of each operation there are, and at last
-// how many cases were compared, how many of them were wrong on purpose and found so, and how many lines
-// differ. A line that a list may not have differs too.
-mod compare;
+// Answers a list of cases for the crate `gamut`: entries, chromas found and lightnesses by their bits, and rows by their digest.
+// `compare/driver/lists/gamut.rs` says what the list holds.
 mod digest;
-mod operations;
 mod rows;
+mod values;
 
-use case_directions::run::Run;
+use case_directions::Lending;
+use case_lines::Reader;
+use case_lines::answers;
+use cases::Line;
 
-// Takes a case. Its operation must be known and have its number of words.
-fn take_case(run: Run) -> Run {
-    let line = run.line();
-    let operation = line.operation;
-    let place = operations::place_of(operation);
-    if !operations::takes(place, line.count) {
-        return run.formed(false);
-    }
-    let next = run.counting(place, operations::FIRST_CASE);
-    let words = line.words;
-    let all = run.directions;
+// row level = number hi lo: `fill_row`, with the number of its refusal or 0, and the digest of the row after it
+const ROW: u64 = 0x72_6f77;
+
+// ent level j = r: `max_chroma` at a level in direction j
+const ENT: u64 = 0x65_6e74;
+
+// maxc l cos sin = r: `max_chroma`
+const MAXC: u64 = 0x6d61_7863;
+
+// lof i = l: `Gamut::l_of`
+const LOF: u64 = 0x6c_6f66;
+
+// Whether a line of an operation may have so many words.
+fn takes(operation: u64, count: usize) -> bool {
     match operation {
-        operations::DIR => next.with_dir(),
-        operations::BAD => next.with_bad(),
-        operations::LEN => next.with_len(720),
-        operations::SIZE => next.with_size(800),
-        operations::ROW => rows::take_row(next),
-        _ => next.agreed(compare::agrees(operation, words, all)),
+        case_directions::DIR | case_directions::BAD | MAXC => count == 3,
+        case_directions::LEN | ENT => count == 2,
+        case_directions::SIZE | ROW | LOF => count == 1,
+        _ => false,
+    }
+}
+
+// What the next case is lent after a line, which is answered if it is a case.
+fn take_line(line: Line, lending: Lending) -> Lending {
+    let operation = line.operation;
+    let words = line.words;
+    let all = lending.directions;
+    if !takes(operation, line.count) {
+        answers::malformed();
+        return lending;
+    }
+    match operation {
+        case_directions::DIR => lending.with_dir(words),
+        case_directions::BAD => lending.with_bad(words),
+        case_directions::LEN => lending.with_len(words, 720),
+        case_directions::SIZE => lending.with_size(words, 800),
+        ROW => rows::answer(line, lending),
+        ENT => {
+            values::answer_entry(line, all);
+            lending
+        }
+        MAXC => {
+            values::answer_chroma(line);
+            lending
+        }
+        _ => {
+            values::answer_lightness(line);
+            lending
+        }
     }
 }
 
 // Reads the list to its end. A proved loop ends, so it counts turns down.
-fn take_all() -> Run {
-    let mut run = Run::new();
+fn take_all() -> Lending {
+    let mut reader = Reader::new();
+    let mut lending = Lending::new();
     let mut turns = case_lines::TURNS;
-    while turns > 0 {
-        run = run.turned();
-        if run.done() {
-            return run;
-        }
-        if run.has_case() {
-            run = take_case(run);
+    while turns > 0 && reader.more {
+        reader = reader.read_on();
+        if reader.case {
+            lending = take_line(reader.line, lending);
         }
         turns -= 1;
     }
-    run
+    lending
 }
 
-// Replays the list and says what came of it.
+// Answers the list.
 fn main() {
-    let run = take_all();
-    let names = operations::NAMES;
-    run.finished(b", and a row is missing").report(&names);
+    take_all().finish();
 }

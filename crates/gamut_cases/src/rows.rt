@@ -1,18 +1,12 @@
 // The rows, filled by the directions.
 use crate::digest;
+use case_directions::Lending;
 use case_directions::Lent;
-use case_directions::run::Run;
+use case_lines::answers;
+use case_lines::answers::Answer;
 use case_words::size_at;
-use case_words::word_at;
+use cases::Line;
 use gamut::Filling;
-
-// Whether a row is filled or refused as expected.
-fn same_filling(filling: Filling, number: u32) -> bool {
-    match filling {
-        Filling::Filled => number == 0,
-        Filling::Refused(why) => number == why.number() as u32,
-    }
-}
 
 // Sets every entry to the float that stands for its place.
 fn mark(row: &mut [f32]) {
@@ -25,18 +19,26 @@ fn mark(row: &mut [f32]) {
     }
 }
 
-// Whether these directions fill a row as expected, or are refused and leave it.
-fn fills(words: [u32; 24], cos: &[f32], sin: &[f32], row: &mut [f32]) -> bool {
-    mark(row);
-    let filling = gamut::fill_row(size_at(words, 0), cos, sin, row);
-    if same_filling(filling, word_at(words, 1)) {
-        return digest::of(row) == case_words::digest::said(word_at(words, 2), word_at(words, 3));
+// The number of a refusal, or 0.
+fn number_of(filling: Filling) -> u8 {
+    match filling {
+        Filling::Filled => 0,
+        Filling::Refused(why) => why.number(),
     }
-    false
 }
 
-// Whether the first cosines and sines do, in a row of the length that is lent.
-fn fills_first(words: [u32; 24], lent: Lent, cos: [f32; 720], sin: [f32; 720]) -> bool {
+// What comes out of a row in these directions.
+fn filled(level: usize, cos: &[f32], sin: &[f32], row: &mut [f32]) -> Answer {
+    mark(row);
+    let filling = gamut::fill_row(level, cos, sin, row);
+    Answer::new()
+        .with_byte(number_of(filling))
+        .with_digest(digest::of(row))
+}
+
+// Answers with a row of the length that is lent, in the first cosines and sines.
+fn answer_lent(line: Line, lent: Lent, cos: [f32; 720], sin: [f32; 720]) {
+    let words = line.words;
     let mut row = [0.0f32; 800];
     let cosines = lent.cosines;
     let sines = lent.sines;
@@ -45,18 +47,20 @@ fn fills_first(words: [u32; 24], lent: Lent, cos: [f32; 720], sin: [f32; 720]) -
         if sines <= 720 {
             if entries <= 800 {
                 let part = &mut row[0..entries];
-                return fills(words, &cos[0..cosines], &sin[0..sines], part);
+                filled(size_at(words, 0), &cos[0..cosines], &sin[0..sines], part).write(line);
+                return;
             }
         }
     }
-    false
+    answers::malformed();
 }
 
-// Takes a row, with what waited for it.
-pub fn take_row(run: Run) -> Run {
-    let lent = run.lent;
-    let all = run.lends();
+// Answers with a row, with what waited for it.
+pub fn answer(line: Line, lending: Lending) -> Lending {
+    let lent = lending.lent;
+    let all = lending.lends();
     let cos = all.cos;
     let sin = all.sin;
-    run.settled(fills_first(run.words(), lent, cos, sin))
+    answer_lent(line, lent, cos, sin);
+    lending.after_case()
 }

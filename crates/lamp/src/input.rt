@@ -5,6 +5,7 @@ use case_words::float_at;
 use case_words::size_at;
 use cases::Found;
 use cases::Line;
+use cases::Words;
 use lamp_input::Ask;
 use search::Settings;
 
@@ -81,7 +82,7 @@ impl Said {
     }
 
     // With a direction, if it is one and was not given before.
-    fn with_direction(mut self, line: u64, words: [u32; 24]) -> Said {
+    fn with_direction(mut self, line: u64, words: Words) -> Said {
         let j = size_at(words, 0);
         if j < 720 {
             if self.given[j] {

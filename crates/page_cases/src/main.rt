@@ -1,86 +1,54 @@
-// Replays a list of page cases, read from standard input, against the crate `page`, and compares each answer and the whole buffer
-// after it. It writes the numbers of the first lines that differ with their operations, then how many lines of each operation there
-// are, and at last how many cases were compared, how many of them were wrong on purpose and found so, and how many lines differ. A
-// line that a list may not have differs too.
-mod operations;
+// Answers a list of cases for the crate `page`: the page of a job as it is, after the number of a refusal, the count of its bytes, and
+// whether the rest of the buffer is as it was. `compare/driver/lists/page.rs` says what the list holds.
 mod pages;
 
-use case_lines::Replay;
+use case_lines::Reader;
+use case_lines::answers;
+use cases::Line;
 use search_rules::Job;
 
-// What came of the lines so far, and the job that they set.
-struct State {
-    replay: Replay,
-    job: Job,
+// page size fill = number count kept: the page of the job in a buffer of this length, filled by this word: the number of its refusal
+// and 0, or 0 and the count of its bytes, and whether the rest of the buffer is as it was; then the page itself
+const PAGE: u64 = 0x7061_6765;
+
+// Whether a line of an operation may have so many words.
+fn takes(operation: u64, count: usize) -> bool {
+    match operation {
+        case_jobs::JOB => 5 <= count && count <= 21,
+        case_jobs::BEST => count == 4,
+        PAGE => count == 2,
+        _ => false,
+    }
 }
 
-// With the job as a line sets it.
-fn set(replay: Replay, job: Job) -> State {
-    let line = replay.line;
+// The job after a line, which is answered if it is a case.
+fn take_line(line: Line, job: Job) -> Job {
+    let operation = line.operation;
     let words = line.words;
-    if line.operation == operations::JOB {
-        let said = case_jobs::job_said(words, line.count);
-        return State { replay, job: said };
+    if !takes(operation, line.count) {
+        answers::malformed();
+        return job;
     }
-    let said = case_jobs::with_best(job, words);
-    State { replay, job: said }
-}
-
-// Takes a line. Its operation must be known and have a number of words that it may have.
-fn take_line(replay: Replay, job: Job) -> State {
-    let line = replay.line;
-    let words = line.words;
-    let place = operations::place_of(line.operation);
-    if !operations::takes(place, line.count) {
-        return State {
-            replay: replay.formed(false),
-            job,
-        };
+    match operation {
+        case_jobs::JOB => case_jobs::job_of(words, line.count),
+        case_jobs::BEST => case_jobs::with_best(job, words),
+        _ => {
+            pages::answer(line, job);
+            job
+        }
     }
-    let next = replay.counting(place, operations::FIRST_CASE);
-    if place < operations::FIRST_CASE {
-        return set(next, job);
-    }
-    State {
-        replay: next.agreed(pages::agrees(words, job)),
-        job,
-    }
-}
-
-// One turn: reads on, and takes the line if one has just ended.
-fn turned(state: State) -> State {
-    let replay = state.replay;
-    let job = state.job;
-    let next = replay.turned();
-    if next.case {
-        return take_line(next, job);
-    }
-    State { replay: next, job }
-}
-
-// Whether there is no more to read.
-fn is_done(state: State) -> bool {
-    let replay = state.replay;
-    !replay.more
 }
 
 // Reads the list to its end. A proved loop ends, so it counts turns down.
-fn take_all() -> Replay {
-    let mut state = State {
-        replay: Replay::new(),
-        job: case_jobs::blank(),
-    };
+fn main() {
+    let mut reader = Reader::new();
+    let mut job = case_jobs::blank();
     let mut turns = case_lines::TURNS;
-    while turns > 0 && !is_done(state) {
-        state = turned(state);
+    while turns > 0 && reader.more {
+        reader = reader.read_on();
+        if reader.case {
+            job = take_line(reader.line, job);
+        }
         turns -= 1;
     }
-    state.replay
-}
-
-// Replays the list and says what came of it.
-fn main() {
-    let replay = take_all();
-    let names = operations::NAMES;
-    replay.finished(false, b"").report(&names);
 }

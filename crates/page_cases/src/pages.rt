@@ -1,8 +1,9 @@
-// A page, held to the words after its inputs: the number of its refusal, the count of its bytes, and the whole buffer after it by a
-// digest, so that what lies after the page, or after a refusal all of it, is compared too.
-use case_words::digest;
+// Pages, each in a buffer that holds other bytes before.
+use case_lines::answers;
+use case_lines::answers::Answer;
 use case_words::size_at;
 use case_words::word_at;
+use cases::Line;
 use page::Laid;
 use search_rules::Job;
 
@@ -11,8 +12,8 @@ const ROOM: usize = 1024;
 
 // The byte of a buffer at a place before the call, which changes along the buffer and from case to case.
 fn byte_before(fill: u32, at: usize) -> u8 {
-    let stirred = std::num::wrapping_add_u32(fill, (at % 0x100 * 0x3d) as u32);
-    (stirred % 0x100) as u8
+    let sum = std::num::wrapping_add_u32(fill, (at % 0x100 * 0x3d) as u32);
+    (sum % 0x100) as u8
 }
 
 // Fills a buffer.
@@ -24,46 +25,59 @@ fn fill_all(page: &mut [u8], fill: u32) {
     }
 }
 
-// A digest with one more byte.
-fn with_byte(sum: u64, byte: u8) -> u64 {
-    digest::with_byte(sum, byte as u32)
-}
-
-// The digest of a buffer.
-fn digest_of(page: &[u8]) -> u64 {
-    let mut sum = digest::START;
-    let mut i = 0;
+// Whether a buffer is as it was filled from a place on.
+fn is_kept(page: &[u8], fill: u32, from: usize) -> bool {
+    let mut i = from;
     while i < page.len() {
-        sum = with_byte(sum, page[i]);
+        if page[i] != byte_before(fill, i) {
+            return false;
+        }
         i += 1;
     }
-    sum
+    true
 }
 
-// Whether an answer is the one that the words say: a count, or the number of a refusal.
-fn same_answer(laid: Laid, words: [u32; 24]) -> bool {
-    let number = word_at(words, 2);
-    let count = size_at(words, 3);
+// The number of a refusal, or 0.
+fn number_of(laid: Laid) -> u8 {
     match laid {
-        Laid::Bytes(bytes) => number == 0 && count == bytes,
-        Laid::Refused(why) => number == why.number() as u32 && count == 0,
+        Laid::Bytes(_) => 0,
+        Laid::Refused(why) => why.number(),
     }
 }
 
-// Whether the page in this buffer is the one that the words say.
-fn same_page(words: [u32; 24], page: &mut [u8], job: Job) -> bool {
-    fill_all(page, word_at(words, 1));
-    let laid = page::lay_out(job, page);
-    let sum = digest_of(page);
-    same_answer(laid, words) && sum == digest::said(word_at(words, 4), word_at(words, 5))
+// How many bytes are said to be written.
+fn count_of(laid: Laid) -> usize {
+    match laid {
+        Laid::Bytes(count) => count,
+        Laid::Refused(_) => 0,
+    }
 }
 
-// Whether the page of a job is what the words of a line say.
-pub fn agrees(words: [u32; 24], job: Job) -> bool {
+// Answers with the page of a job in this buffer.
+fn answer_in(line: Line, page: &mut [u8], job: Job) {
+    let words = line.words;
+    let fill = word_at(words, 1);
+    fill_all(page, fill);
+    let laid = page::lay_out(job, page);
+    let count = count_of(laid);
+    Answer::new()
+        .with_byte(number_of(laid))
+        .with_size(count)
+        .with_bool(is_kept(page, fill, count))
+        .write(line);
+    if count <= page.len() {
+        answers::say(&page[0..count]);
+    }
+}
+
+// Answers with the page of a job in a buffer of the length that the words say.
+pub fn answer(line: Line, job: Job) {
+    let words = line.words;
     let mut buffer = [0u8; 1024];
     let size = size_at(words, 0);
     if size <= ROOM {
-        return same_page(words, &mut buffer[0..size], job);
+        answer_in(line, &mut buffer[0..size], job);
+        return;
     }
-    false
+    answers::malformed();
 }

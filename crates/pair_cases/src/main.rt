@@ -1,96 +1,56 @@
-// Replays a list of pair cases, read from standard input, against the crate `pair`, and compares each answer: its kind, its
-// tightest gap, the bits of its chroma, and all of its sixteen hues. It writes the numbers of the first lines that differ with
-// their operations, then how many lines of each operation there are, and at last how many cases were compared, how many of
-// them were wrong on purpose and found so, and how many lines differ. A line that a list may not have differs too, and so does
-// a refused call that leaves a work buffer changed.
+// Answers a list of cases for the crate `pair`: the best of two rows with its tightest gap, the bits of its chroma, all of its
+// sixteen hues and the work buffer after a refusal. `compare/driver/lists/pair.rs` says what the list holds.
 mod best;
-mod operations;
 mod rows;
 
-use case_lines::Replay;
+use case_lines::Reader;
+use case_lines::answers;
 use case_words::word_at;
+use cases::Line;
 use rows::Rows;
 
-// What came of the lines so far, and the rows that they set.
-struct State {
-    replay: Replay,
-    rows: Rows,
-}
+// best k step floor room = number found chroma tightest h .. kept: `best_for_levels` with a work buffer of this length: the number of
+// its refusal or 0, whether something is found, the chroma or 0, the tightest gap and sixteen hues, and after a refusal whether the
+// work buffer is as it was
+const BEST: u64 = 0x6265_7374;
 
-// With a row as a line sets it, if it can be set so.
-fn set(replay: Replay, rows: Rows) -> State {
-    let line = replay.line;
+// The rows with one of them as a line sets it, if it can be set so.
+fn set(line: Line, rows: Rows) -> Rows {
     let operation = line.operation;
     let words = line.words;
     let count = line.count;
     let which = word_at(words, 0);
     let row = rows.at(which);
     if which < 2 && rows::takes(operation, words, count, row) {
-        let next = rows.replaced(which, rows::set(operation, words, count, row));
-        return State { replay, rows: next };
+        return rows.replaced(which, rows::set(operation, words, count, row));
     }
-    State {
-        replay: replay.formed(false),
-        rows,
-    }
+    answers::malformed();
+    rows
 }
 
-// Takes a line. Its operation must be known and have a number of words that it may have.
-fn take_line(replay: Replay, rows: Rows) -> State {
-    let line = replay.line;
-    let words = line.words;
-    let place = operations::place_of(line.operation);
-    if !operations::takes(place, line.count) {
-        return State {
-            replay: replay.formed(false),
-            rows,
-        };
+// The rows after a line, which is answered if it is a case.
+fn take_line(line: Line, rows: Rows) -> Rows {
+    if line.operation != BEST {
+        return set(line, rows);
     }
-    let next = replay.counting(place, operations::FIRST_CASE);
-    if place < operations::FIRST_CASE {
-        return set(next, rows);
+    if line.count == 4 {
+        best::answer(line, rows.at(0), rows.at(1));
+        return rows;
     }
-    let same = best::agrees(line.number, words, line.count, rows.at(0), rows.at(1));
-    State {
-        replay: next.agreed(same),
-        rows,
-    }
-}
-
-// One turn: reads on, and takes the line if one has just ended.
-fn turned(state: State) -> State {
-    let replay = state.replay;
-    let rows = state.rows;
-    let next = replay.turned();
-    if next.case {
-        return take_line(next, rows);
-    }
-    State { replay: next, rows }
-}
-
-// Whether there is no more to read.
-fn is_done(state: State) -> bool {
-    let replay = state.replay;
-    !replay.more
+    answers::malformed();
+    rows
 }
 
 // Reads the list to its end. A proved loop ends, so it counts turns down.
-fn take_all() -> Replay {
-    let mut state = State {
-        replay: Replay::new(),
-        rows: Rows::new(),
-    };
+fn main() {
+    let mut reader = Reader::new();
+    let mut rows = Rows::new();
     let mut turns = case_lines::TURNS;
-    while turns > 0 && !is_done(state) {
-        state = turned(state);
+    while turns > 0 && reader.more {
+        reader = reader.read_on();
+        if reader.case {
+            rows = take_line(reader.line, rows);
+        }
         turns -= 1;
     }
-    state.replay
-}
-
-// Replays the list and says what came of it.
-fn main() {
-    let replay = take_all();
-    let names = operations::NAMES;
-    replay.finished(false, b"").report(&names);
 }

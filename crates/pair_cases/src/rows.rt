@@ -1,9 +1,18 @@
 // The lines that set the rows.
-use crate::operations;
 use case_words::entries;
 use case_words::entries::Row;
 use case_words::float_at;
 use case_words::size_at;
+use cases::Words;
+
+// row w n: row w, which is 0 or 1, has n entries, which are as they were
+const ROW: u64 = 0x72_6f77;
+
+// more w i e ..: the entries of row w from i on are these
+const MORE: u64 = 0x6d6f_7265;
+
+// same w i n e: n entries of row w, from i on, are all this one
+const SAME: u64 = 0x7361_6d65;
 
 // The two rows.
 pub struct Rows {
@@ -40,21 +49,22 @@ impl Rows {
 }
 
 // Whether a line can set a row so.
-pub fn takes(operation: u64, words: [u32; 24], count: usize, row: Row) -> bool {
+pub fn takes(operation: u64, words: Words, count: usize, row: Row) -> bool {
     let at = size_at(words, 1);
     match operation {
-        operations::ROW => at <= 800,
-        operations::MORE => entries::words_fit(at, 2, count, row.length),
-        _ => entries::fit(at, size_at(words, 2), row.length),
+        ROW => count == 2 && at <= 800,
+        MORE => 3 <= count && entries::words_fit(at, 2, count, row.length),
+        SAME => count == 4 && entries::fit(at, size_at(words, 2), row.length),
+        _ => false,
     }
 }
 
 // The row after such a line: with another length, or with entries by their own words, or all by one word.
-pub fn set(operation: u64, words: [u32; 24], count: usize, row: Row) -> Row {
+pub fn set(operation: u64, words: Words, count: usize, row: Row) -> Row {
     let at = size_at(words, 1);
     match operation {
-        operations::ROW => row.long(at),
-        operations::MORE => row.put(at, words, 2, count),
+        ROW => row.long(at),
+        MORE => row.put(at, words, 2, count),
         _ => row.put_same(at, size_at(words, 2), float_at(words, 3)),
     }
 }

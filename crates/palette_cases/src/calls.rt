@@ -1,11 +1,13 @@
-// Derivations, validations and back-offs, each held to the words after its inputs and to the colours.
+// Derivations, validations and back-offs.
 use crate::colors;
-use crate::operations;
+use case_directions::Lending;
+use case_directions::Lent;
+use case_lines::answers;
+use case_lines::answers::Answer;
 use case_words::float_at;
-use case_words::same_at;
 use case_words::size_at;
-use case_words::word_at;
 use cases::Line;
+use cases::Words;
 use metrics::Metrics;
 use palette::BackOff;
 use palette::BackedOff;
@@ -15,100 +17,123 @@ use palette::Palette;
 use palette::Validation;
 use palette::Verdict;
 
-// Whether a derived palette is the one that is expected: its colours, or the number of its refusal with zeros.
-fn same_palette(palette: Palette, number: u32, expected: [u32; 32]) -> bool {
+// derive chroma = number c ..: `derive` of the design, with the number of its refusal or 0, and 32 colours
+pub const DERIVE: u64 = 0x6465_7269_7665;
+
+// validate k count = number gap spread separation chroma finding: `validate` of so many of the colours, with the number of its
+// refusal alone, or 0, the four metrics and the number of the first finding, 0 where there is none
+pub const VALIDATE: u64 = 0x7661_6c69_6461_7465;
+
+// backoff chroma = number passed what c ..: `back_off` of the design, with the number of its refusal or 0; 1 and the chroma that
+// passed, or 0 and the last finding, 0 where nothing was tried; and 32 colours
+pub const BACKOFF: u64 = 0x62_6163_6b6f_6666;
+
+// What comes out of a derivation.
+fn derived(palette: Palette) -> Answer {
     let answer = palette.answer;
     let given = palette.colors;
     match answer {
-        Derivation::Derived => number == 0 && colors::same(given, expected),
-        Derivation::Refused(why) => number == why.number() as u32 && colors::none(given),
+        Derivation::Derived => colors::shown(Answer::new().with(0), given),
+        Derivation::Refused(why) => colors::shown(Answer::new().with_byte(why.number()), given),
     }
 }
 
-// Whether four metrics are those that the words say.
-fn same_metrics(m: Metrics, words: [u32; 24]) -> bool {
-    same_at(m.gap, words, 3)
-        && same_at(m.spread, words, 4)
-        && same_at(m.separation, words, 5)
-        && same_at(m.chroma, words, 6)
-}
-
-// Whether a verdict is the finding of this number, or none where that is 0.
-fn same_verdict(verdict: Verdict, number: u32) -> bool {
+// The number of a finding, 0 where there is none.
+fn number_of(verdict: Verdict) -> u8 {
     match verdict {
-        Verdict::Passed => number == 0,
-        Verdict::Found(finding) => number == finding.number() as u32,
+        Verdict::Passed => 0,
+        Verdict::Found(finding) => finding.number(),
     }
 }
 
-// Whether a validation is the one that is expected.
-fn same_validation(validation: Validation, words: [u32; 24], count: usize) -> bool {
+// What comes out of a validation that is accepted.
+fn measured(m: Metrics, verdict: Verdict) -> Answer {
+    Answer::new()
+        .with(0)
+        .with_float(m.gap)
+        .with_float(m.spread)
+        .with_float(m.separation)
+        .with_float(m.chroma)
+        .with_byte(number_of(verdict))
+}
+
+// What comes out of a validation.
+fn validated(validation: Validation) -> Answer {
     match validation {
-        Validation::Measured(metrics, verdict) => {
-            word_at(words, 2) == 0
-                && count == 8
-                && same_metrics(metrics, words)
-                && same_verdict(verdict, word_at(words, 7))
-        }
-        Validation::Refused(why) => word_at(words, 2) == why.number() as u32 && count == 3,
+        Validation::Measured(metrics, verdict) => measured(metrics, verdict),
+        Validation::Refused(why) => Answer::new().with_byte(why.number()),
     }
 }
 
-// Whether a back-off that was not refused says these two words.
-fn says(passed: u32, what: u32, words: [u32; 24], count: usize) -> bool {
-    word_at(words, 1) == 0 && count == 4 && word_at(words, 2) == passed && word_at(words, 3) == what
+// What comes out of a back-off, but for its colours.
+fn ended(answer: BackOff) -> Answer {
+    match answer {
+        BackOff::Passed(chroma) => Answer::new().with(0).with(1).with_float(chroma),
+        BackOff::Found(finding) => Answer::new().with(0).with(0).with_byte(finding.number()),
+        BackOff::Untried => Answer::new().with(0).with(0).with(0),
+        BackOff::Refused(why) => Answer::new().with_byte(why.number()).with(0).with(0),
+    }
 }
 
-// Whether a back-off is the one that is expected: the colours of its chroma, or zeros.
-fn same_end(end: BackedOff, words: [u32; 24], count: usize, expected: [u32; 32]) -> bool {
+// What comes out of a back-off.
+fn backed_off(end: BackedOff) -> Answer {
     let answer = end.answer;
     let given = end.colors;
-    match answer {
-        BackOff::Passed(chroma) => {
-            says(1, patterns::pattern_of(chroma), words, count) && colors::same(given, expected)
-        }
-        BackOff::Found(finding) => {
-            says(0, finding.number() as u32, words, count) && colors::none(given)
-        }
-        BackOff::Untried => says(0, 0, words, count) && colors::none(given),
-        BackOff::Refused(why) => {
-            word_at(words, 1) == why.number() as u32 && count == 2 && colors::none(given)
-        }
-    }
+    colors::shown(ended(answer), given)
 }
 
-// Whether a validation of the colours gives what the words say.
-fn validates(
-    words: [u32; 24],
-    count: usize,
-    expected: [u32; 32],
-    cos: &[f32],
-    sin: &[f32],
-) -> bool {
-    let k = size_at(words, 0);
-    let given = colors::of(expected);
-    let many = size_at(words, 1);
-    same_validation(palette::validate(k, given, many, cos, sin), words, count)
-}
-
-// Whether a case gives what its words and the colours say.
-pub fn agrees(line: Line, design: Design, expected: [u32; 32], cos: &[f32], sin: &[f32]) -> bool {
+// What comes out of a case in these directions.
+fn called(line: Line, design: Design, given: Words, cos: &[f32], sin: &[f32]) -> Answer {
     let operation = line.operation;
     let words = line.words;
-    let count = line.count;
     let chroma = float_at(words, 0);
     match operation {
-        operations::DERIVE => same_palette(
-            palette::derive(design, chroma, cos, sin),
-            word_at(words, 1),
-            expected,
-        ),
-        operations::VALIDATE => validates(words, count, expected, cos, sin),
-        _ => same_end(
-            palette::back_off(design, chroma, cos, sin),
-            words,
-            count,
-            expected,
-        ),
+        DERIVE => derived(palette::derive(design, chroma, cos, sin)),
+        VALIDATE => {
+            let k = size_at(words, 0);
+            let count = size_at(words, 1);
+            validated(palette::validate(k, colors::of(given), count, cos, sin))
+        }
+        _ => backed_off(palette::back_off(design, chroma, cos, sin)),
     }
+}
+
+// Components with a zero after the last.
+fn lengthened(components: [f32; 720]) -> [f32; 721] {
+    let mut long = [0.0f32; 721];
+    let mut i = 0;
+    while i < 720 {
+        long[i] = components[i];
+        i += 1;
+    }
+    long
+}
+
+// Answers a case, with the first cosines and sines.
+fn answer_lent(
+    line: Line,
+    lent: Lent,
+    cos: [f32; 721],
+    sin: [f32; 721],
+    design: Design,
+    given: Words,
+) {
+    let cosines = lent.cosines;
+    let sines = lent.sines;
+    if cosines <= 721 {
+        if sines <= 721 {
+            called(line, design, given, &cos[0..cosines], &sin[0..sines]).write(line);
+            return;
+        }
+    }
+    answers::malformed();
+}
+
+// Answers a case, with what waited for it.
+pub fn answer(line: Line, lending: Lending, design: Design, given: Words) {
+    let lent = lending.lent;
+    let all = lending.lends();
+    let cos = all.cos;
+    let sin = all.sin;
+    answer_lent(line, lent, lengthened(cos), lengthened(sin), design, given);
 }

@@ -1,7 +1,7 @@
 // The 32 colours that a validation is lent and that the other cases hand out, each by one word: the red channel highest.
-use case_words::entries;
-use case_words::size_at;
-use case_words::word_at;
+use case_lines::answers::Answer;
+use cases::MOST;
+use cases::Words;
 use srgb::Srgb8;
 
 // Whether the word at a place is below a limit, or comes before the first that must be.
@@ -10,35 +10,15 @@ fn is_fine(word: u32, place: usize, from: usize, limit: u32) -> bool {
 }
 
 // Whether every word from one of them on is below a limit.
-pub fn below(words: [u32; 24], from: usize, limit: u32) -> bool {
+pub fn below(words: Words, from: usize, limit: u32) -> bool {
     let mut i = 0;
-    while i < 24 {
+    while i < MOST {
         if !is_fine(words[i], i, from, limit) {
             return false;
         }
         i += 1;
     }
     true
-}
-
-// With the colours that the words from one of them on say at a place and after it.
-pub fn put(colors: [u32; 32], at: usize, words: [u32; 24], from: usize, count: usize) -> [u32; 32] {
-    let mut all = colors;
-    let mut to = at;
-    let mut i = from;
-    while i < count {
-        if to < 32 {
-            all[to] = word_at(words, i);
-        }
-        to = std::num::wrapping_add_usize(to, 1);
-        i += 1;
-    }
-    all
-}
-
-// Whether the words after the first are colours, of which there are as many from a place on.
-pub fn takes_more(words: [u32; 24], count: usize) -> bool {
-    below(words, 1, 0x100_0000) && entries::words_fit(size_at(words, 0), 1, count, 32)
 }
 
 // The colour that a word says.
@@ -50,8 +30,8 @@ fn color_of(word: u32) -> Srgb8 {
     }
 }
 
-// The colours that the words say.
-pub fn of(words: [u32; 32]) -> [Srgb8; 32] {
+// The colours that the first 32 words say.
+pub fn of(words: Words) -> [Srgb8; 32] {
     let black = Srgb8 { r: 0, g: 0, b: 0 };
     let mut all = [black; 32];
     let mut i = 0;
@@ -62,26 +42,18 @@ pub fn of(words: [u32; 32]) -> [Srgb8; 32] {
     all
 }
 
-// Whether a colour is the one that a word says.
-fn is(c: Srgb8, word: u32) -> bool {
-    c.r as u32 == word / 0x1_0000
-        && c.g as u32 == word / 0x100 % 0x100
-        && c.b as u32 == word % 0x100
+// An answer with a colour.
+fn with_color(to: Answer, c: Srgb8) -> Answer {
+    to.with((c.r as u32) << 16 | (c.g as u32) << 8 | c.b as u32)
 }
 
-// Whether 32 colours are those that the words say.
-pub fn same(given: [Srgb8; 32], words: [u32; 32]) -> bool {
+// An answer with 32 colours.
+pub fn shown(to: Answer, given: [Srgb8; 32]) -> Answer {
+    let mut next = to;
     let mut i = 0;
     while i < 32 {
-        if !is(given[i], words[i]) {
-            return false;
-        }
+        next = with_color(next, given[i]);
         i += 1;
     }
-    true
-}
-
-// Whether 32 colours are all zero.
-pub fn none(given: [Srgb8; 32]) -> bool {
-    same(given, [0u32; 32])
+    next
 }

@@ -1,7 +1,6 @@
 // Floats by their bit patterns, as the lists of cases say them: every NaN's pattern stands for the NaN.
 ghost use mathlib.Core.Path.{_≡_};
 ghost use lib.Ieee.{binary32, nanBits, ofBits};
-ghost use Rattle.patterns.specs.Same.{sameFloat};
 
 // Whether a pattern is a NaN's.
 fn is_nan_pattern(bits: u32) -> bool
@@ -18,16 +17,6 @@ pub fn float_of(bits: u32) -> f32
         return 0.0 / 0.0;
     }
     f32::from_bits(bits)
-}
-
-// Whether a result has the pattern that is expected of it, where every NaN has every NaN's.
-pub fn same_float(r: f32, bits: u32) -> bool
-    ensures { λ s. ⌜ s ≡ sameFloat r bits ⌝ }
-{
-    if r != r {
-        return is_nan_pattern(bits);
-    }
-    f32::to_bits(r) == bits
 }
 
 // The pattern of a float, which is the same for every NaN.

@@ -1,79 +1,75 @@
-// Steps and placements, each held to the words after its inputs.
+// Steps and placements.
+use case_lines::answers;
+use case_lines::answers::Answer;
+use case_words::entries::Row;
 use case_words::float_at;
-use case_words::hues;
-use case_words::rubbish;
 use case_words::size_at;
-use case_words::word_at;
-use placement::Answer;
+use case_words::work_buffer;
+use cases::Line;
+use placement::Placement;
 use placement_checks::Stepping;
 
-// Whether the step for a hue count is the one that is expected, or is refused with the number that is.
-pub fn same_step(words: [u32; 24]) -> bool {
+// Answers with the step for a hue count.
+pub fn answer_step(line: Line) {
+    let words = line.words;
     match placement_checks::step_for(size_at(words, 0)) {
-        Stepping::Is(step) => word_at(words, 1) == 0 && step == size_at(words, 2),
-        Stepping::Declined(why) => word_at(words, 1) == why.number() as u32
-            && word_at(words, 2) == 0,
+        Stepping::Is(step) => Answer::new().with(0).with_size(step).write(line),
+        Stepping::Declined(why) => Answer::new().with_byte(why.number()).with(0).write(line),
     }
 }
 
-// Whether an answer is of the kind that the words say.
-fn same_answer(answer: Answer, number: u32, placed: bool) -> bool {
+// What came out of a placement; `kept` says whether the work buffer is as it was.
+fn came_out(found: Placement, kept: bool) -> Answer {
+    let answer = found.answer;
+    let hues = found.hues;
+    let none = Answer::new();
     match answer {
-        Answer::Placed => number == 0 && placed,
-        Answer::Nowhere => number == 0 && !placed,
-        Answer::Refused(why) => number == why.number() as u32,
+        placement::Answer::Placed => none.with(0)
+            .with(1)
+            .with_size(found.tightest)
+            .with_hues(hues),
+        placement::Answer::Nowhere => none.with(0)
+            .with(0)
+            .with_size(found.tightest)
+            .with_hues(hues),
+        placement::Answer::Refused(why) => none.with_byte(why.number())
+            .with(0)
+            .with_size(found.tightest)
+            .with_hues(hues)
+            .with_bool(kept),
     }
 }
 
-// Whether an answer is a refusal.
-pub fn is_refused(answer: Answer) -> bool {
-    match answer {
-        Answer::Placed => false,
-        Answer::Nowhere => false,
-        Answer::Refused(_) => true,
-    }
-}
-
-// Whether a placement in this work buffer is the one that is expected, and leaves the buffer where it is refused.
-fn same_place(words: [u32; 24], count: usize, seed: u32, m: &[f32], work: &mut [u16]) -> bool {
+// A placement in this work buffer.
+fn placed(line: Line, m: &[f32], work: &mut [u16]) -> Answer {
+    let words = line.words;
+    let seed = work_buffer::seed_of(line.number);
     let k = size_at(words, 0);
     let step = size_at(words, 1);
     let c = float_at(words, 2);
-    rubbish::fill(work, seed);
+    work_buffer::fill(work, seed);
     let found = placement::feasible(m, c, k, step, work);
-    let answer = found.answer;
-    let given = found.hues;
-    if is_refused(answer) {
-        if !rubbish::stands(work, seed) {
-            return false;
-        }
-    }
-    same_answer(answer, word_at(words, 4), 6 < count)
-        && found.tightest == size_at(words, 5)
-        && hues::same(given, words, 6, count)
+    let kept = work_buffer::is_kept(work, seed);
+    came_out(found, kept)
 }
 
-// Whether it is in a work buffer of the length that the words say, on a ring of this length.
-pub fn same_in(words: [u32; 24], count: usize, seed: u32, ring: [f32; 800], length: usize) -> bool {
+// Answers with a placement on a ring of this length, in a work buffer of the length that the words say.
+fn answer_on(line: Line, entries: [f32; 800], length: usize) {
+    let words = line.words;
     let mut work = [0u16; 2400];
     let room = size_at(words, 3);
     if length <= 800 {
         if room <= 2400 {
             let part = &mut work[0..room];
-            return same_place(words, count, seed, &ring[0..length], part);
+            placed(line, &entries[0..length], part).write(line);
+            return;
         }
     }
-    false
+    answers::malformed();
 }
 
-// Whether a placement has a work buffer that there is room for, and as many hues as it may: none, or k where it is not
-// refused.
-pub fn is_whole(words: [u32; 24], count: usize) -> bool {
-    if 2400 < word_at(words, 3) {
-        return false;
-    }
-    if 6 < count {
-        return word_at(words, 4) == 0 && count - 6 == size_at(words, 0);
-    }
-    count == 6
+// Answers with a placement on a ring.
+pub fn answer(line: Line, ring: Row) {
+    let entries = ring.entries;
+    answer_on(line, entries, ring.length);
 }

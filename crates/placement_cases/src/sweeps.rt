@@ -1,27 +1,35 @@
-// Sweeps: every placement on a ring, held to one digest. The digest goes over each hue count from 1 to 16, for it over
+// Sweeps: every placement on a ring by one digest. The digest goes over each hue count from 1 to 16, for it over
 // each spacing from 1 to the ring's length, and for both over the chromas of the line. Each answer gives a byte: 0 for
 // none, 255 for a placement, the number of a refusal, or 254 for one that left its work buffer changed. Sixteen hues
 // and the tightest gap follow, two bytes each, the low one first.
-use crate::places;
+use case_lines::answers::Answer;
 use case_words::digest;
 use case_words::entries::Row;
 use case_words::float_at;
-use case_words::rubbish;
-use case_words::word_at;
-use placement::Answer;
+use case_words::work_buffer;
+use cases::Line;
+use cases::Words;
 
-// The digest of the answers so far, and what the rubbish of the next work buffer is made from.
+// The digest of the answers so far, and the seed of what the next work buffer holds.
 struct Sum {
     digest: u64,
     seed: u32,
 }
 
-// The byte of an answer.
-fn byte_of(answer: Answer) -> u32 {
+// The byte of a refusal by its number; `kept` says whether the work buffer is as it was.
+fn byte_of_refused(number: u8, kept: bool) -> u32 {
+    if kept {
+        return number as u32;
+    }
+    254
+}
+
+// The byte of an answer; `kept` says whether the work buffer is as it was.
+fn byte_of(answer: placement::Answer, kept: bool) -> u32 {
     match answer {
-        Answer::Placed => 255,
-        Answer::Nowhere => 0,
-        Answer::Refused(why) => why.number() as u32,
+        placement::Answer::Placed => 255,
+        placement::Answer::Nowhere => 0,
+        placement::Answer::Refused(why) => byte_of_refused(why.number(), kept),
     }
 }
 
@@ -36,20 +44,15 @@ fn with_tightest(sum: u64, gap: usize) -> u64 {
 // With one placement.
 fn with_place(sum: Sum, m: &[f32], c: f32, k: usize, step: usize, work: &mut [u16]) -> Sum {
     let seed = sum.seed;
-    rubbish::fill(work, seed);
+    work_buffer::fill(work, seed);
     let found = placement::feasible(m, c, k, step, work);
     let answer = found.answer;
     let hues = found.hues;
-    let mut byte = byte_of(answer);
-    if places::is_refused(answer) {
-        if !rubbish::stands(work, seed) {
-            byte = 254;
-        }
-    }
+    let byte = byte_of(answer, work_buffer::is_kept(work, seed));
     let placed = digest::with_hues(digest::with_byte(sum.digest, byte), hues);
     Sum {
         digest: with_tightest(placed, found.tightest),
-        seed: rubbish::stirred(seed),
+        seed: work_buffer::next_seed(seed),
     }
 }
 
@@ -57,14 +60,14 @@ fn with_place(sum: Sum, m: &[f32], c: f32, k: usize, step: usize, work: &mut [u1
 fn with_chromas(
     sum: Sum,
     m: &[f32],
-    words: [u32; 24],
+    words: Words,
     count: usize,
     k: usize,
     step: usize,
     work: &mut [u16],
 ) -> Sum {
     let mut to = sum;
-    let mut i = 2;
+    let mut i = 0;
     while i < count {
         to = with_place(to, m, float_at(words, i), k, step, work);
         i += 1;
@@ -73,14 +76,7 @@ fn with_chromas(
 }
 
 // With each spacing.
-fn with_steps(
-    sum: Sum,
-    m: &[f32],
-    words: [u32; 24],
-    count: usize,
-    k: usize,
-    work: &mut [u16],
-) -> Sum {
+fn with_steps(sum: Sum, m: &[f32], words: Words, count: usize, k: usize, work: &mut [u16]) -> Sum {
     let mut to = sum;
     let mut i = 0;
     while i < m.len() {
@@ -91,7 +87,7 @@ fn with_steps(
 }
 
 // With each hue count.
-fn with_counts(sum: Sum, m: &[f32], words: [u32; 24], count: usize, work: &mut [u16]) -> Sum {
+fn with_counts(sum: Sum, m: &[f32], words: Words, count: usize, work: &mut [u16]) -> Sum {
     let mut to = sum;
     let mut k = 0;
     while k < 16 {
@@ -102,7 +98,7 @@ fn with_counts(sum: Sum, m: &[f32], words: [u32; 24], count: usize, work: &mut [
 }
 
 // The same, on a ring of this length and in a work buffer as long.
-fn swept(sum: Sum, ring: [f32; 800], length: usize, words: [u32; 24], count: usize) -> Sum {
+fn swept(sum: Sum, ring: [f32; 800], length: usize, words: Words, count: usize) -> Sum {
     let mut work = [0u16; 800];
     if length <= 800 {
         let part = &mut work[0..length];
@@ -111,13 +107,14 @@ fn swept(sum: Sum, ring: [f32; 800], length: usize, words: [u32; 24], count: usi
     sum
 }
 
-// Whether a sweep gives the digest that is expected.
-pub fn agrees(words: [u32; 24], count: usize, seed: u32, ring: Row) -> bool {
+// Answers with the digest of a sweep.
+pub fn answer(line: Line, ring: Row) {
+    let words = line.words;
     let entries = ring.entries;
     let none = Sum {
         digest: digest::START,
-        seed,
+        seed: work_buffer::seed_of(line.number),
     };
-    let sum = swept(none, entries, ring.length, words, count);
-    sum.digest == digest::said(word_at(words, 0), word_at(words, 1))
+    let sum = swept(none, entries, ring.length, words, line.count);
+    Answer::new().with_digest(sum.digest).write(line);
 }

@@ -1,109 +1,112 @@
-// Calls, each held to the words after its inputs: the number of its refusal, and the job after it.
-use crate::jobs;
+// Starts, steps and whole searches.
+use case_lines::answers;
+use case_lines::answers::Answer;
 use case_words::digest;
-use case_words::rubbish;
 use case_words::size_at;
-use case_words::word_at;
-use search::Answer;
+use case_words::work_buffer;
+use cases::Line;
+use cases::Words;
 use search::Job;
 use search::Outcome;
-ghost use mathlib.Core.Path.{_≡_};
-ghost use mathlib.Core.Bool.{cond};
-ghost use Prim.Native.Nat.{_*_};
-ghost use lib.Dec.{leb};
 
-// What came of a line: whether it is as it should be, and the job after it.
-pub struct Taken {
-    pub same: bool,
-    pub job: Job,
-}
+// start k gap = number k gap levels position tightest found chroma dark light h ..: `start`, with the number of its refusal or 0 and
+// the job after it: 1 and the best, or 0 alone, and sixteen hues
+pub const START: u64 = 0x73_7461_7274;
 
-// An answer as a number.
-fn number_of(answer: Answer) -> u32 {
+// step room = number k gap .. kept: `step` with a work buffer of this length, with the same, and after a refusal whether the work
+// buffer is as it was
+pub const STEP: u64 = 0x7374_6570;
+
+// steps n room = hi lo kept: n steps: the digest of their numbers and the jobs after them, and whether every one that was refused left
+// its work buffer as it was
+pub const STEPS: u64 = 0x73_7465_7073;
+
+// search k gap room = number k gap .. kept: `search`, with the same as a step
+pub const SEARCH: u64 = 0x7365_6172_6368;
+
+// The number of a refusal, or 0.
+fn number_of(outcome: Outcome) -> u8 {
+    let answer = outcome.answer;
     match answer {
-        Answer::Accepted => 0,
-        Answer::Refused(why) => why.number() as u32,
+        search::Answer::Accepted => 0,
+        search::Answer::Refused(why) => why.number(),
     }
 }
 
-// What comes of a call where a number and a job are expected; `kept` says whether the work buffer is as it was.
-fn held(outcome: Outcome, kept: bool, number: u32, expected: Job) -> Taken {
-    let answer = outcome.answer;
+// What came out of a call: its number and the job after it.
+fn came_out(outcome: Outcome) -> Answer {
     let job = outcome.job;
-    let same = number_of(answer) == number && (number == 0 || kept) && jobs::same(job, expected);
-    Taken { same, job }
+    case_jobs::shown(Answer::new().with_byte(number_of(outcome)), job)
 }
 
-// Takes a start.
-pub fn start(words: [u32; 24], count: usize, table: &[f32], lent: Job) -> Taken {
-    let settings = case_jobs::settings_said(words);
-    let expected = jobs::after(lent, settings, size_at(words, 3), 0, 0, words, 4, count);
+// What came out of a call with a work buffer; `kept` says whether that is as it was.
+fn worked_out(outcome: Outcome, kept: bool) -> Answer {
+    let answer = came_out(outcome);
+    if number_of(outcome) == 0 {
+        return answer;
+    }
+    answer.with_bool(kept)
+}
+
+// Answers with a start, and gives the job after it.
+fn answer_start(line: Line, table: &[f32], lent: Job) -> Job {
+    let words = line.words;
+    let settings = case_jobs::settings_of(words);
     let outcome = search::start(settings, table, lent);
-    held(outcome, true, word_at(words, 2), expected)
+    came_out(outcome).write(line);
+    outcome.job
 }
 
-// What came of a call with a work buffer.
-struct Called {
-    outcome: Outcome,
-    // whether the work buffer is as it was
-    kept: bool,
-}
-
-// A step in this work buffer.
-fn stepped(seed: u32, table: &[f32], work: &mut [u16], lent: Job) -> Called {
-    rubbish::fill(work, seed);
+// Answers with a step in this work buffer, and gives the job after it.
+fn answer_step(line: Line, table: &[f32], work: &mut [u16], lent: Job) -> Job {
+    let seed = work_buffer::seed_of(line.number);
+    work_buffer::fill(work, seed);
     let outcome = search::step(table, work, lent);
-    let kept = rubbish::stands(work, seed);
-    Called { outcome, kept }
+    worked_out(outcome, work_buffer::is_kept(work, seed)).write(line);
+    outcome.job
 }
 
-// Takes a step in this work buffer.
-pub fn step(
-    words: [u32; 24],
-    count: usize,
-    seed: u32,
-    table: &[f32],
-    work: &mut [u16],
-    lent: Job,
-) -> Taken {
-    let settings = lent.settings;
-    let expected = jobs::after(
-        lent,
-        settings,
-        lent.levels,
-        size_at(words, 2),
-        size_at(words, 3),
-        words,
-        4,
-        count,
-    );
-    let called = stepped(seed, table, work, lent);
-    let outcome = called.outcome;
-    held(outcome, called.kept, word_at(words, 1), expected)
+// Answers with a whole search in this work buffer, and gives the job after it.
+fn answer_search(line: Line, table: &[f32], work: &mut [u16], lent: Job) -> Job {
+    let words = line.words;
+    let seed = work_buffer::seed_of(line.number);
+    let settings = case_jobs::settings_of(words);
+    work_buffer::fill(work, seed);
+    let outcome = search::search(settings, table, work, lent);
+    worked_out(outcome, work_buffer::is_kept(work, seed)).write(line);
+    outcome.job
 }
 
-// What came of steps so far: whether every refused one left its work buffer, the digest of them all, and the last job.
+// What came out of steps so far: whether every refused one left its work buffer, the digest of them all, and the last job.
 struct Sum {
     kept: bool,
     digest: u64,
     job: Job,
 }
 
-// With one more step.
-fn with_step(sum: Sum, called: Called) -> Sum {
-    let outcome = called.outcome;
-    let answer = outcome.answer;
-    let job = outcome.job;
-    let number = number_of(answer);
-    Sum {
-        kept: sum.kept && (number == 0 || called.kept),
-        digest: jobs::digested(digest::with_byte(sum.digest, number), job),
-        job,
+impl Sum {
+    // With one more step; `kept` says whether the work buffer is as it was.
+    fn with_step(self, outcome: Outcome, kept: bool) -> Sum {
+        let job = outcome.job;
+        let number = number_of(outcome);
+        Sum {
+            kept: self.kept && (number == 0 || kept),
+            digest: case_jobs::digested(digest::with_byte(self.digest, number as u32), job),
+            job,
+        }
+    }
+
+    // With one more step in this work buffer.
+    fn stepped(self, seed: u32, table: &[f32], work: &mut [u16]) -> Sum {
+        let lent = self.job;
+        work_buffer::fill(work, seed);
+        let outcome = search::step(table, work, lent);
+        self.with_step(outcome, work_buffer::is_kept(work, seed))
     }
 }
 
 // So many steps in this work buffer.
-fn stepped_on(count: usize, seed: u32, table: &[f32], work: &mut [u16], lent: Job) -> Sum {
+fn steps(count: usize, seed: u32, table: &[f32], work: &mut [u16], lent: Job) -> Sum {
     let mut sum = Sum {
         kept: true,
         digest: digest::START,
@@ -111,54 +114,54 @@ fn stepped_on(count: usize, seed: u32, table: &[f32], work: &mut [u16], lent: Jo
     };
     let mut i = 0;
     while i < count {
-        let job = sum.job;
-        sum = with_step(sum, stepped(seed, table, work, job));
+        sum = sum.stepped(seed, table, work);
         i += 1;
     }
     sum
 }
 
-// Takes so many steps in this work buffer.
-pub fn steps(words: [u32; 24], seed: u32, table: &[f32], work: &mut [u16], lent: Job) -> Taken {
-    let sum = stepped_on(size_at(words, 0), seed, table, work, lent);
-    let job = sum.job;
-    let same = sum.kept && sum.digest == digest::said(word_at(words, 2), word_at(words, 3));
-    Taken { same, job }
+// Answers with so many steps in this work buffer, and gives the job after them.
+fn answer_steps(line: Line, table: &[f32], work: &mut [u16], lent: Job) -> Job {
+    let words = line.words;
+    let seed = work_buffer::seed_of(line.number);
+    let sum = steps(size_at(words, 0), seed, table, work, lent);
+    Answer::new()
+        .with_digest(sum.digest)
+        .with_bool(sum.kept)
+        .write(line);
+    sum.job
 }
 
-// How many pairs so many levels have, or 0 where no table has so many.
-fn pairs_of(levels: usize) -> usize
-    ensures { λ r. ⌜ r ≡ cond (leb levels 170) (levels * levels) 0 ⌝ }
-{
-    if levels <= 170 {
-        return levels * levels;
+// How long a work buffer a call is lent; a start is lent none.
+fn room_of(operation: u64, words: Words) -> usize {
+    match operation {
+        START => 0,
+        STEP => size_at(words, 0),
+        STEPS => size_at(words, 1),
+        _ => size_at(words, 2),
     }
-    0
 }
 
-// Takes a whole search in this work buffer; one that is accepted ends after the last pair.
-pub fn search(
-    words: [u32; 24],
-    count: usize,
-    seed: u32,
-    table: &[f32],
-    work: &mut [u16],
-    lent: Job,
-) -> Taken {
-    let settings = case_jobs::settings_said(words);
-    let levels = table.len() / 720;
-    let expected = jobs::after(
-        lent,
-        settings,
-        levels,
-        pairs_of(levels),
-        size_at(words, 4),
-        words,
-        5,
-        count,
-    );
-    rubbish::fill(work, seed);
-    let outcome = search::search(settings, table, work, lent);
-    let kept = rubbish::stands(work, seed);
-    held(outcome, kept, word_at(words, 3), expected)
+// Answers a call in this work buffer, and gives the job after it.
+fn answer_in(line: Line, table: &[f32], work: &mut [u16], lent: Job) -> Job {
+    let operation = line.operation;
+    match operation {
+        START => answer_start(line, table, lent),
+        STEP => answer_step(line, table, work, lent),
+        STEPS => answer_steps(line, table, work, lent),
+        _ => answer_search(line, table, work, lent),
+    }
+}
+
+// Answers a call over a table, in a work buffer of the length that the words say, and gives the job after it.
+pub fn answer(line: Line, table: &[f32], lent: Job) -> Job {
+    let words = line.words;
+    let mut work = [0u16; 2400];
+    let room = room_of(line.operation, words);
+    if room <= 2400 {
+        let part = &mut work[0..room];
+        return answer_in(line, table, part, lent);
+    }
+    answers::malformed();
+    lent
 }

@@ -1,2 +1,0 @@
-pub mod Oriented
-pub mod Chosen
