@@ -1,5 +1,6 @@
 // A colour by lightness, chroma and direction, brought into the gamut of sRGB: `lch_to_srgb8_gamut_clipped` of
 // crates/lcr-core/src/color.rs.
+// Its cases are in `color_cases`.
 use srgb::Srgb8;
 ghost use mathlib.Core.Path.{_≡_};
 ghost use Rattle.clipping.specs.Clip.{clippedOf};

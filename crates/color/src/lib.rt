@@ -1,5 +1,6 @@
 // The colour conversions of CIE 15 in the form document 01 gives them: linear light, CIEXYZ under D65 and CIELAB. Names, structure
 // and order of operations follow crates/lcr-core/src/color.rs.
+// Its cases are in `color_cases`.
 use roots::Root;
 pub use srgb::Linear;
 pub use srgb::Srgb8;

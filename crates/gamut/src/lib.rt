@@ -1,5 +1,6 @@
 // The table of what a panel can show: for each lightness and hue the chroma that 40 halvings over the gamut test of sRGB end at.
 // `Gamut` and `max_chroma` of xtask/src/palette.rs, with lent directions and one row filled at a call.
+// Its cases are in `gamut_cases`.
 use limits::Refusal;
 ghost use mathlib.Core.Path.{_≡_};
 ghost use Prim.Native.Nat.{_≤_};

@@ -1,4 +1,5 @@
 // The midpoint that every halving takes.
+// Its cases are those of `color_cases` (`clip`), `gamut_cases` and `pair_cases`.
 ghost use mathlib.Core.Path.{_≡_};
 ghost use Rattle.halving.specs.Midpoint.{midpoint};
 

@@ -1,4 +1,5 @@
 // What a call on rows and rings hands to a caller in another language: one number, and what is written where it is lent.
+// It is run by `compare/bench`.
 use gamut::Filling;
 use pair::Chosen;
 use placement::Answer;

@@ -1,4 +1,5 @@
 // The hue of a colour by lent directions: document 01's stand-in for `atan2`.
+// Its cases are in `color_cases`.
 use color::Lab;
 use limits::Refusal;
 use srgb::Srgb8;

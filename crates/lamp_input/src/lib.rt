@@ -1,4 +1,5 @@
 // The line `ask k gap` of the input of `lamp`, in decimal: how many hues, and how far apart the two levels must be, less 1.
+// Its case is the input of `lamp`.
 ghost use mathlib.Core.Path.{_≡_};
 ghost use mathlib.Core.Bool.{true};
 ghost use mathlib.Core.List.{List, _∷_, []};

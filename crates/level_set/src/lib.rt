@@ -1,4 +1,5 @@
 // One chroma and its hues for a set of levels: `best_for_level_set` of xtask/src/palette.rs, over a lent table.
+// Its cases are in `level_set_cases`.
 use gamut::Gamut;
 use limits::Checked;
 use limits::Refusal;

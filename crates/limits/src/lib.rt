@@ -1,5 +1,6 @@
 // Document 01, "What a call can hand back", with what document 02 adds: the refusals with their numbers, and a check for each kind
 // of value that a caller lends.
+// Its cases are those of the crates that call it.
 ghost use mathlib.Core.Path.{_≡_};
 ghost use mathlib.Core.Bool.{not};
 ghost use Rattle.limits.specs.Refusals.{number};

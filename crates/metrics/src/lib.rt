@@ -1,5 +1,6 @@
 // What is measured of a palette: the four metrics of `validate` of crates/lcr-core/src/palette.rs. Of the numbers that stand for
 // its colours the first k are of the dark level, and the k after them of the light one.
+// Its cases are in `palette_cases`.
 ghost use mathlib.Core.Path.{_≡_};
 ghost use mathlib.Core.Bool.{false};
 ghost use Prim.Native.Nat.{_-_, _≤_, min};

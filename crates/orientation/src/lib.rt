@@ -1,4 +1,5 @@
 // The best chroma where one hue is fixed: `best_at_orientation` of xtask/src/palette.rs, for a hue index in place of the angle.
+// Its cases are in `orientation_cases`.
 use gamut::Gamut;
 use limits::Checked;
 use limits::Refusal;

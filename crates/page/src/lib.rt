@@ -1,4 +1,5 @@
 // A page for the service book: a job laid out in lines of 40 bytes, each followed by a newline.
+// Its cases are in `page_cases`.
 use limits::Refusal;
 use search_rules::Best;
 use search_rules::Job;

@@ -1,4 +1,5 @@
 // Lines of a page: 40 bytes, a word and a number, and a newline after them.
+// Its cases are in `page_cases`.
 ghost use mathlib.Core.Path.{_≡_};
 ghost use mathlib.Core.List.{_++_};
 ghost use Prim.Native.Nat.{_-_};

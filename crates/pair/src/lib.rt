@@ -1,4 +1,5 @@
 // One pair: `best_for_levels` of xtask/src/palette.rs, over two lent rows; and the same over one row.
+// Its cases are in `pair_cases`, those of one row in `level_set_cases`.
 use limits::Checked;
 pub use pair_rules::Answer;
 pub use pair_rules::Chosen;

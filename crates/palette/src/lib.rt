@@ -1,6 +1,7 @@
 // Palettes: derivation, validation and back-off. `derive` and `back_off` of xtask/src/palette.rs, `Palette::new` and `validate`
 // of crates/lcr-core/src/palette.rs, with lent directions. Colours are brought into the gamut of sRGB and measured there, whatever
 // table their levels and hues were searched in.
+// Its cases are in `palette_cases`.
 use gamut::Gamut;
 use limits::Checked;
 use limits::Refusal;

@@ -1,4 +1,5 @@
 // What a palette is derived from, and what derivation and back-off refuse: numbers 1, 3, 9, 11 and 12.
+// Its cases are in `palette_cases`.
 use gamut::Gamut;
 use limits::Checked;
 use limits::Refusal;

@@ -1,4 +1,5 @@
 // k hues on a ring, at a chroma: `feasible` and `place_from` of xtask/src/palette.rs.
+// Its cases are in `placement_cases`.
 use limits::Checked;
 pub use placement_rules::Answer;
 pub use placement_rules::Placement;

@@ -1,4 +1,5 @@
 // What a placement refuses, numbers 1, 3, 4, 5, 7 and 8, and the step for k.
+// Its cases are in `placement_cases`.
 use limits::Checked;
 use limits::Refusal;
 pub use placement_rules::Stepping;

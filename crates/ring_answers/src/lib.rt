@@ -1,4 +1,5 @@
 // The answer to a line: what is said to it, and the bytes of that.
+// Its cases are the lines of `ring`.
 use limits::Refusal;
 use placement::Answer;
 use placement::Placement;

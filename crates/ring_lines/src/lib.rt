@@ -1,4 +1,5 @@
 // An input that arrives in pieces, cut into lines, and the answers to them.
+// Its cases are the lines of `ring`.
 ghost use mathlib.Core.Path.{_≡_};
 ghost use mathlib.Core.Bool.{cond};
 ghost use mathlib.Core.List.{[]};

@@ -1,4 +1,5 @@
 // The reading of a line: what it asks, or that it is malformed.
+// Its cases are the lines of `ring`.
 ghost use mathlib.Core.Path.{_≡_};
 ghost use mathlib.Core.Bool.{true};
 ghost use mathlib.Core.List.{List};

@@ -1,6 +1,7 @@
 // Document 01's stand-ins for `sqrt` and `cbrt`: the f32 nearest the exact root. One code serves both degrees n: the
 // operand is normalised by the leading zeros of its fraction bits, and 25 binary digits of the root are taken, one a turn,
 // with a running remainder, which keeps the cube root inside 64 bits.
+// Its cases are in `color_cases`.
 use limits::Refusal;
 ghost use mathlib.Core.Path.{_≡_};
 ghost use mathlib.Core.Logic.{_⊎_};

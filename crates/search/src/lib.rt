@@ -1,4 +1,5 @@
 // The job that searches every pair of levels, a step at a time: `search` of xtask/src/palette.rs, with stepping added.
+// Its cases are in `search_cases`.
 use gamut::Gamut;
 use limits::Checked;
 use limits::Refusal;

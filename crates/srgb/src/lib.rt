@@ -1,5 +1,6 @@
 // sRGB as IEC 61966-2-1 has it, in the form document 01 gives: 8-bit colours, linear light, and the gamut test. Names, structure and
 // order of operations follow crates/lcr-core/src/color.rs.
+// Its cases are in `color_cases`.
 ghost use mathlib.Core.Path.{_≡_};
 ghost use Rattle.srgb.specs.Channels.{clampTo, gamutChannel, clampedOf, inGamut, srgb8ToLinear, linearToSrgb8};
 ghost use Rattle.srgb.specs.Parts.{fromHex, toHex};

@@ -1,4 +1,5 @@
 // Bytes and decimal numbers put into a text that is lent. A text that is too short takes as many bytes as it has room for.
+// Its cases are those of `ring` and `page_cases`.
 ghost use mathlib.Core.Path.{_≡_};
 ghost use mathlib.Core.List.{[], _∷_};
 ghost use Prim.Native.Nat.{_+_, _≤_, _<_, min};

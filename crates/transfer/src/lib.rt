@@ -1,4 +1,5 @@
 // Document 01, "Colour": the constants that stand in for `powf`, and an 8-bit code decoded and encoded by them.
+// Its cases are in `color_cases`.
 ghost use mathlib.Core.Path.{_≡_};
 ghost use Prim.Native.Nat.{suc};
 ghost use Rattle.transfer.specs.Transfer.{decodeOf, thresholdOf, encodeOf, Lists};
