@@ -2,6 +2,8 @@
 //! case is a line of both: in `stdin` an operation and its words, in `stdout` the same, a `=`, and
 //! the words of what comes out. A line that only sets something has no answer.
 
+use crate::words::digest;
+use crate::work_buffer;
 use std::collections::BTreeMap;
 use std::fs::{self, File};
 use std::io::{self, BufWriter, Write};
@@ -20,6 +22,8 @@ pub const BESIDE: &str =
 pub struct Files {
     stdin: BufWriter<File>,
     stdout: BufWriter<File>,
+    /// How many lines `stdin` has so far.
+    lines: u32,
 }
 
 /// An operation with its words in hexadecimal.
@@ -36,6 +40,7 @@ impl Files {
         Ok(Files {
             stdin: file("stdin")?,
             stdout: file("stdout")?,
+            lines: 0,
         })
     }
 
@@ -59,15 +64,32 @@ impl Files {
         ))
     }
 
+    /// Writes a line of `stdin`.
+    fn line(&mut self, line: &str) -> io::Result<()> {
+        self.lines += 1;
+        writeln!(self.stdin, "{line}")
+    }
+
     /// Writes a comment.
     pub fn comment(&mut self, text: &str) -> io::Result<()> {
-        writeln!(self.stdin, "# {text}")
+        self.line(&format!("# {text}"))
+    }
+
+    /// The bytes of what a work buffer of this length holds before the next case, and after it where
+    /// that is refused.
+    pub fn work(&self, room: usize) -> Vec<u8> {
+        work_buffer::filled(self.lines + 1, room)
+    }
+
+    /// The two words for the digest of that.
+    pub fn left(&self, room: usize) -> [u32; 2] {
+        digest(self.work(room).into_iter())
     }
 
     /// Writes a line that sets something.
     pub fn set(&mut self, operation: &str, words: &[u32]) -> io::Result<()> {
         assert!(words.len() <= MOST, "{operation}: too many words");
-        writeln!(self.stdin, "{}", text_of(operation, words))
+        self.line(&text_of(operation, words))
     }
 
     /// Writes a case and what must come out.
@@ -85,7 +107,7 @@ impl Files {
 
     /// Writes a line that a list may not have, which must be answered by `malformed`.
     pub fn malformed(&mut self, line: &str) -> io::Result<()> {
-        writeln!(self.stdin, "{line}")?;
+        self.line(line)?;
         writeln!(self.stdout, "malformed")
     }
 

@@ -20,6 +20,7 @@ mod standins;
 #[allow(dead_code)]
 mod validating; // a palette, its validation and the printed ones, likewise
 mod words;
+mod work_buffer;
 
 use files::Files;
 use std::io::{self, Write};

@@ -127,15 +127,15 @@ fn by_hand(answer: &Answer) -> Vec<u32> {
 }
 
 /// The words of an answer: the number of its refusal or 0, whether something is found, the chroma or 0,
-/// the tightest gap, sixteen hues, and after a refusal a 1, since the work buffer is as it was.
-fn answer_words(answer: &Answer) -> Vec<u32> {
+/// the tightest gap, sixteen hues, and after a refusal what is left in the work buffer.
+fn answer_words(answer: &Answer, left: [u32; 2]) -> Vec<u32> {
     match answer {
         Ok(Some((chroma, hues))) => {
             let gap = tightest(hues, DIRECTIONS) as u32;
             [&[0, 1, word(*chroma), gap][..], &sixteen(hues)].concat()
         }
         Ok(None) => vec![0; 20],
-        Err(number) => [&[*number][..], &[0; 19], &[1]].concat(),
+        Err(number) => [&[*number][..], &[0; 19], &left].concat(),
     }
 }
 
@@ -205,7 +205,11 @@ impl LevelSets<'_> {
         let answer = self.answer(asked);
         self.count(k as usize, &answer);
         let files = &mut self.tables.files;
-        files.case("set", &[k, room as u32], &answer_words(&answer))?;
+        files.case(
+            "set",
+            &[k, room as u32],
+            &answer_words(&answer, files.left(room)),
+        )?;
         Ok(by_hand(&answer))
     }
 

@@ -4,6 +4,7 @@
 use crate::files::{Files, Tally};
 use crate::models::job::{Job, BLANK, BROKEN};
 use crate::models::layout::{units, write_page};
+use crate::words::digest;
 use std::io;
 
 /// The refusal of a buffer that is shorter than what is to be written into it.
@@ -116,8 +117,8 @@ impl Pages<'_> {
         self.longer += u64::from(written < size);
     }
 
-    /// Writes a page in a buffer of this size: the number of its refusal or 0, how many bytes it has,
-    /// and a 1, since the rest of the buffer is as it was; then the page.
+    /// Writes a page in a buffer of this size: the number of its refusal or 0, how many bytes it has, and
+    /// the digest of the whole buffer after it; then the page.
     pub fn page(&mut self, size: usize) -> io::Result<()> {
         assert!(size <= STORED, "a buffer too long");
         let asked = [size as u32, self.fill()];
@@ -125,8 +126,11 @@ impl Pages<'_> {
         self.count(size, &answer);
         let number = *answer.as_ref().err().unwrap_or(&0);
         let page = answer.unwrap_or_default();
-        self.files
-            .case("page", &asked, &[number, page.len() as u32, 1])?;
+        let byte = |i: u32| asked[1].wrapping_add(i.wrapping_mul(0x3d)) as u8;
+        let rest = (page.len() as u32..asked[0]).map(byte);
+        let [high, low] = digest(page.iter().copied().chain(rest));
+        let answer = [number, page.len() as u32, high, low];
+        self.files.case("page", &asked, &answer)?;
         self.files.text(&page)
     }
 

@@ -33,16 +33,16 @@ fn answer(rows: [&[f32]; 2], call: Call) -> Answer {
 }
 
 /// The words of an answer over rows of n entries: the number of its refusal or 0, whether something is
-/// found, the chroma or 0, the tightest gap, sixteen hues, and after a refusal a 1, since the work
-/// buffer is as it was.
-fn answer_words(answer: &Answer, n: usize) -> Vec<u32> {
+/// found, the chroma or 0, the tightest gap, sixteen hues, and after a refusal what is left in the work
+/// buffer.
+fn answer_words(answer: &Answer, n: usize, left: [u32; 2]) -> Vec<u32> {
     match answer {
         Answer::Found(chroma, hues) => {
             let gap = tightest(hues, n) as u32;
             [&[0, 1, word(*chroma), gap][..], &sixteen(hues)].concat()
         }
         Answer::Nothing => vec![0; 20],
-        Answer::Refused(number) => [&[*number][..], &[0; 19], &[1]].concat(),
+        Answer::Refused(number) => [&[*number][..], &[0; 19], &left].concat(),
     }
 }
 
@@ -165,7 +165,8 @@ impl Pairs<'_> {
         let answer = answer(self.rows(), call);
         self.count(call, &answer);
         let asked = [call.k, call.step, word(call.c), call.room as u32];
-        let words = answer_words(&answer, self.lengths[0]);
+        let left = self.files.left(call.room);
+        let words = answer_words(&answer, self.lengths[0], left);
         self.files.case("best", &asked, &words)?;
         Ok(match answer {
             Answer::Found(chroma, _) => Some(chroma),

@@ -156,14 +156,13 @@ pub fn sixteen(hues: &[usize]) -> [u32; 16] {
 }
 
 /// The words of an answer on a ring of n positions: the number of its refusal or 0, whether something
-/// is placed, the tightest gap, sixteen hues, and after a refusal a 1, since the work buffer is as it
-/// was.
-fn answer_words(answer: &Answer, n: usize) -> Vec<u32> {
+/// is placed, the tightest gap, sixteen hues, and after a refusal what is left in the work buffer.
+fn answer_words(answer: &Answer, n: usize, left: [u32; 2]) -> Vec<u32> {
     let gap = tightest_of(answer, n) as u32;
     match answer {
         Answer::Placed(hues) => [&[0, 1, gap][..], &sixteen(hues)].concat(),
         Answer::Nowhere => vec![0; 19],
-        Answer::Refused(number) => [&[*number][..], &[0; 18], &[1]].concat(),
+        Answer::Refused(number) => [&[*number][..], &[0; 18], &left].concat(),
     }
 }
 
@@ -253,7 +252,8 @@ impl Placements<'_> {
 
     /// Writes a placement.
     pub fn place(&mut self, call: Call) -> io::Result<()> {
-        let answer = answer_words(&self.answered(call), self.length);
+        let left = self.files.left(call.room);
+        let answer = answer_words(&self.answered(call), self.length, left);
         let asked = [call.k, call.step, word(call.c), call.room as u32];
         self.files.case("place", &asked, &answer)
     }

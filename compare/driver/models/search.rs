@@ -13,12 +13,12 @@ use std::ops::{Deref, DerefMut};
 const SOME_LEVELS: u32 = 100;
 
 /// The words of the answer to a call that was lent this job: the number of its refusal or 0, and the
-/// job after it; after a refusal of a call that is lent a work buffer also a 1, since it is as it was.
-fn answer_words(answer: Result<Job, u32>, lent: Job, works: bool) -> Vec<u32> {
+/// job after it; after a refusal of a call that is lent a work buffer also what is left there.
+fn answer_words(answer: Result<Job, u32>, lent: Job, left: &[u32]) -> Vec<u32> {
     let job = answer.unwrap_or(lent).shown();
     let mut words = [vec![answer.err().unwrap_or(0)], job].concat();
-    if works && answer.is_err() {
-        words.push(1);
+    if answer.is_err() {
+        words.extend(left);
     }
     words
 }
@@ -138,15 +138,16 @@ impl Searches<'_> {
         }
     }
 
-    /// Writes a call with this answer, and takes it; `works` says whether it is lent a work buffer.
+    /// Writes a call with this answer, which is lent a work buffer of this length or none, and takes it.
     fn call(
         &mut self,
         operation: &str,
         words: &[u32],
         answer: Result<Job, u32>,
-        works: bool,
+        room: Option<usize>,
     ) -> io::Result<()> {
-        let came_out = answer_words(answer, self.job, works);
+        let left = room.map_or(vec![], |room| self.files.left(room).to_vec());
+        let came_out = answer_words(answer, self.job, &left);
         self.take(answer);
         self.files.case(operation, words, &came_out)
     }
@@ -164,7 +165,7 @@ impl Searches<'_> {
     pub fn start_alone(&mut self, k: u32, gap: f32) -> io::Result<()> {
         let answer = job::start(k, gap, self.table());
         self.begins(k, gap, answer);
-        self.call("start", &[k, word(gap)], answer, false)
+        self.call("start", &[k, word(gap)], answer, None)
     }
 
     /// Writes a start; where it is refused for nothing but a gap that is too small, the next call is
@@ -183,7 +184,7 @@ impl Searches<'_> {
         for room in rooms {
             self.lend_again(lent)?;
             let answer = job::step(self.table(), *room, lent);
-            self.call("step", &[*room as u32], answer, true)?;
+            self.call("step", &[*room as u32], answer, Some(*room))?;
         }
         Ok(())
     }
@@ -200,17 +201,19 @@ impl Searches<'_> {
         self.step_in(&rooms)
     }
 
-    /// Writes so many steps in one line, with the digest of the answers and the jobs after them and a 1,
-    /// since those refused leave the work buffer as it was, in a work buffer of each of these lengths;
-    /// the first of each is lent the same job.
+    /// Writes so many steps in one line, with the digest of the answers and the jobs after them and that
+    /// of what those refused leave in the work buffer, in a work buffer of each of these lengths; the
+    /// first of each is lent the same job.
     pub fn steps_in(&mut self, count: usize, rooms: &[usize]) -> io::Result<()> {
         let lent = self.job;
         for room in rooms {
             self.lend_again(lent)?;
-            let (answers, [high, low]) = self.stepped(count, *room);
+            let (answers, sum) = self.stepped(count, *room);
+            let refused = answers.iter().filter(|answer| answer.is_err());
+            let left = digest(self.files.work(*room).repeat(refused.count()).into_iter());
             answers.into_iter().for_each(|answer| self.take(answer));
             let asked = [count as u32, *room as u32];
-            self.files.case("steps", &asked, &[high, low, 1])?;
+            self.files.case("steps", &asked, &[sum, left].concat())?;
         }
         Ok(())
     }
@@ -291,7 +294,8 @@ impl Searches<'_> {
             if let Ok(job) = answer {
                 self.searches.count(job, again);
             }
-            self.call("search", &[k, word(gap), *room as u32], answer, true)?;
+            let asked = [k, word(gap), *room as u32];
+            self.call("search", &asked, answer, Some(*room))?;
         }
         Ok(())
     }

@@ -1,4 +1,5 @@
-// What a work buffer holds before a call: numbers that no call wrote, others before each.
+// What a work buffer holds before a call, numbers that no call wrote, others before each; and after it.
+use crate::digest;
 
 // The seed after this one (xorshift with 32 bits).
 pub fn next_seed(seed: u32) -> u32 {
@@ -31,16 +32,18 @@ pub fn fill(work: &mut [u16], seed: u32) {
     }
 }
 
-// Whether a work buffer is as it was filled.
-pub fn is_kept(work: &[u16], seed: u32) -> bool {
-    let mut next = seed;
+// A digest with the numbers of a work buffer.
+pub fn digested(sum: u64, work: &[u16]) -> u64 {
+    let mut to = sum;
     let mut i = 0;
     while i < work.len() {
-        if work[i] != number_of(next) {
-            return false;
-        }
-        next = next_seed(next);
+        to = digest::with_pair(to, work[i]);
         i += 1;
     }
-    true
+    to
+}
+
+// The digest of a work buffer.
+pub fn digest_of(work: &[u16]) -> u64 {
+    digested(digest::START, work)
 }

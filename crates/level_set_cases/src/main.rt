@@ -12,9 +12,9 @@ use cases::Words;
 // levels n l ..: the list of the sets from here on has n level indices, which are these
 const LEVELS: u64 = 0x6c65_7665_6c73;
 
-// set k room = number found chroma tightest h .. kept: `best_for_level_set` over that list with a work buffer of this length: the number
-// of its refusal or 0, whether something is found, the chroma or 0, the tightest gap and sixteen hues, and after a refusal whether the
-// work buffer is as it was
+// set k room = number found chroma tightest h .. hi lo: `best_for_level_set` over that list with a work buffer of this length: the number
+// of its refusal or 0, whether something is found, the chroma or 0, the tightest gap and sixteen hues, and after a refusal the digest
+// of the work buffer
 const SET: u64 = 0x73_6574;
 
 // What the lines so far have set, but for the table's entries.

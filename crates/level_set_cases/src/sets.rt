@@ -10,8 +10,8 @@ use level_set::Chosen;
 // How many level indices a line can list.
 const LISTED: usize = 23;
 
-// What came out of a set; `kept` says whether the work buffer is as it was.
-fn came_out(chosen: Chosen, kept: bool) -> Answer {
+// What came out of a set; `left` is the digest of the work buffer after it.
+fn came_out(chosen: Chosen, left: u64) -> Answer {
     let answer = chosen.answer;
     let hues = chosen.hues;
     let gap = chosen.tightest;
@@ -28,7 +28,7 @@ fn came_out(chosen: Chosen, kept: bool) -> Answer {
             .with(0)
             .with_size(gap)
             .with_hues(hues)
-            .with_bool(kept),
+            .with_digest(left),
     }
 }
 
@@ -58,8 +58,8 @@ fn best(line: Line, levels: &[usize], table: &[f32], work: &mut [u16]) -> Answer
     let seed = work_buffer::seed_of(line.number);
     work_buffer::fill(work, seed);
     let chosen = level_set::best_for_level_set(table, levels, size_at(words, 0), work);
-    let kept = work_buffer::is_kept(work, seed);
-    came_out(chosen, kept)
+    let left = work_buffer::digest_of(work);
+    came_out(chosen, left)
 }
 
 // Answers with the best of the levels listed, in a work buffer of the length that the words say.

@@ -1,5 +1,5 @@
 // Answers a list of cases for the crate `page`: the page of a job as it is, after the number of a refusal, the count of its bytes, and
-// whether the rest of the buffer is as it was. `compare/driver/lists/page.rs` says what the list holds.
+// the digest of the whole buffer. `compare/driver/lists/page.rs` says what the list holds.
 mod pages;
 
 use case_lines::Reader;
@@ -7,8 +7,8 @@ use case_lines::answers;
 use cases::Line;
 use search_rules::Job;
 
-// page size fill = number count kept: the page of the job in a buffer of this length, filled by this word: the number of its refusal
-// and 0, or 0 and the count of its bytes, and whether the rest of the buffer is as it was; then the page itself
+// page size fill = number count hi lo: the page of the job in a buffer of this length, filled by this word: the number of its refusal
+// and 0, or 0 and the count of its bytes, and the digest of the whole buffer after it; then the page itself
 const PAGE: u64 = 0x7061_6765;
 
 // Whether a line of an operation may have so many words.

@@ -1,6 +1,7 @@
 // Pages, each in a buffer that holds other bytes before.
 use case_lines::answers;
 use case_lines::answers::Answer;
+use case_words::digest;
 use case_words::size_at;
 use case_words::word_at;
 use cases::Line;
@@ -25,16 +26,20 @@ fn fill_all(page: &mut [u8], fill: u32) {
     }
 }
 
-// Whether a buffer is as it was filled from a place on.
-fn is_kept(page: &[u8], fill: u32, from: usize) -> bool {
-    let mut i = from;
+// A digest with one more byte.
+fn with_byte(sum: u64, byte: u8) -> u64 {
+    digest::with_byte(sum, byte as u32)
+}
+
+// The digest of a buffer.
+fn digest_of(page: &[u8]) -> u64 {
+    let mut sum = digest::START;
+    let mut i = 0;
     while i < page.len() {
-        if page[i] != byte_before(fill, i) {
-            return false;
-        }
+        sum = with_byte(sum, page[i]);
         i += 1;
     }
-    true
+    sum
 }
 
 // The number of a refusal, or 0.
@@ -56,14 +61,13 @@ fn count_of(laid: Laid) -> usize {
 // Answers with the page of a job in this buffer.
 fn answer_in(line: Line, page: &mut [u8], job: Job) {
     let words = line.words;
-    let fill = word_at(words, 1);
-    fill_all(page, fill);
+    fill_all(page, word_at(words, 1));
     let laid = page::lay_out(job, page);
     let count = count_of(laid);
     Answer::new()
         .with_byte(number_of(laid))
         .with_size(count)
-        .with_bool(is_kept(page, fill, count))
+        .with_digest(digest_of(page))
         .write(line);
     if count <= page.len() {
         answers::say(&page[0..count]);

@@ -8,8 +8,8 @@ use case_words::work_buffer;
 use cases::Line;
 use pair::Chosen;
 
-// What came out of a pair; `kept` says whether the work buffer is as it was.
-fn came_out(chosen: Chosen, kept: bool) -> Answer {
+// What came out of a pair; `left` is the digest of the work buffer after it.
+fn came_out(chosen: Chosen, left: u64) -> Answer {
     let answer = chosen.answer;
     let hues = chosen.hues;
     let gap = chosen.tightest;
@@ -26,7 +26,7 @@ fn came_out(chosen: Chosen, kept: bool) -> Answer {
             .with(0)
             .with_size(gap)
             .with_hues(hues)
-            .with_bool(kept),
+            .with_digest(left),
     }
 }
 
@@ -39,8 +39,8 @@ fn best(line: Line, a: &[f32], b: &[f32], work: &mut [u16]) -> Answer {
     let floor = float_at(words, 2);
     work_buffer::fill(work, seed);
     let chosen = pair::best_for_levels(a, b, k, step, floor, work);
-    let kept = work_buffer::is_kept(work, seed);
-    came_out(chosen, kept)
+    let left = work_buffer::digest_of(work);
+    came_out(chosen, left)
 }
 
 // Answers with the best of two rows of these lengths, in a work buffer of the length that the words say.

@@ -9,9 +9,9 @@ use case_words::word_at;
 use cases::Line;
 use rows::Rows;
 
-// best k step floor room = number found chroma tightest h .. kept: `best_for_levels` with a work buffer of this length: the number of
-// its refusal or 0, whether something is found, the chroma or 0, the tightest gap and sixteen hues, and after a refusal whether the
-// work buffer is as it was
+// best k step floor room = number found chroma tightest h .. hi lo: `best_for_levels` with a work buffer of this length: the number of
+// its refusal or 0, whether something is found, the chroma or 0, the tightest gap and sixteen hues, and after a refusal the digest
+// of the work buffer
 const BEST: u64 = 0x6265_7374;
 
 // The rows with one of them as a line sets it, if it can be set so.

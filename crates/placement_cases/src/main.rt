@@ -20,8 +20,8 @@ const MORE: u64 = 0x6d6f_7265;
 // step k = number step: `step_for`, with the number of its refusal and 0, or 0 and the step
 const STEP: u64 = 0x7374_6570;
 
-// place k step c room = number placed tightest h .. kept: `feasible` with a work buffer of this length: the number of its refusal
-// or 0, whether something is placed, the tightest gap and sixteen hues, and after a refusal whether the work buffer is as it was
+// place k step c room = number placed tightest h .. hi lo: `feasible` with a work buffer of this length: the number of its refusal
+// or 0, whether something is placed, the tightest gap and sixteen hues, and after a refusal the digest of the work buffer
 const PLACE: u64 = 0x70_6c61_6365;
 
 // sweep c .. = hi lo: the digest of `feasible` for each k, each spacing and each of these chromas

@@ -18,8 +18,8 @@ pub fn answer_step(line: Line) {
     }
 }
 
-// What came out of a placement; `kept` says whether the work buffer is as it was.
-fn came_out(found: Placement, kept: bool) -> Answer {
+// What came out of a placement; `left` is the digest of the work buffer after it.
+fn came_out(found: Placement, left: u64) -> Answer {
     let answer = found.answer;
     let hues = found.hues;
     let none = Answer::new();
@@ -36,7 +36,7 @@ fn came_out(found: Placement, kept: bool) -> Answer {
             .with(0)
             .with_size(found.tightest)
             .with_hues(hues)
-            .with_bool(kept),
+            .with_digest(left),
     }
 }
 
@@ -49,8 +49,8 @@ fn placed(line: Line, m: &[f32], work: &mut [u16]) -> Answer {
     let c = float_at(words, 2);
     work_buffer::fill(work, seed);
     let found = placement::feasible(m, c, k, step, work);
-    let kept = work_buffer::is_kept(work, seed);
-    came_out(found, kept)
+    let left = work_buffer::digest_of(work);
+    came_out(found, left)
 }
 
 // Answers with a placement on a ring of this length, in a work buffer of the length that the words say.

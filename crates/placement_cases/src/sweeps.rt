@@ -1,7 +1,7 @@
 // Sweeps: every placement on a ring by one digest. The digest goes over each hue count from 1 to 16, for it over
 // each spacing from 1 to the ring's length, and for both over the chromas of the line. Each answer gives a byte: 0 for
-// none, 255 for a placement, the number of a refusal, or 254 for one that left its work buffer changed. Sixteen hues
-// and the tightest gap follow, two bytes each, the low one first.
+// none, 255 for a placement, the number of a refusal; what is asked here is never refused. Sixteen hues and the
+// tightest gap follow, two bytes each, the low one first.
 use case_lines::answers::Answer;
 use case_words::digest;
 use case_words::entries::Row;
@@ -16,20 +16,12 @@ struct Sum {
     seed: u32,
 }
 
-// The byte of a refusal by its number; `kept` says whether the work buffer is as it was.
-fn byte_of_refused(number: u8, kept: bool) -> u32 {
-    if kept {
-        return number as u32;
-    }
-    254
-}
-
-// The byte of an answer; `kept` says whether the work buffer is as it was.
-fn byte_of(answer: placement::Answer, kept: bool) -> u32 {
+// The byte of an answer.
+fn byte_of(answer: placement::Answer) -> u32 {
     match answer {
         placement::Answer::Placed => 255,
         placement::Answer::Nowhere => 0,
-        placement::Answer::Refused(why) => byte_of_refused(why.number(), kept),
+        placement::Answer::Refused(why) => why.number() as u32,
     }
 }
 
@@ -48,8 +40,7 @@ fn with_place(sum: Sum, m: &[f32], c: f32, k: usize, step: usize, work: &mut [u1
     let found = placement::feasible(m, c, k, step, work);
     let answer = found.answer;
     let hues = found.hues;
-    let byte = byte_of(answer, work_buffer::is_kept(work, seed));
-    let placed = digest::with_hues(digest::with_byte(sum.digest, byte), hues);
+    let placed = digest::with_hues(digest::with_byte(sum.digest, byte_of(answer)), hues);
     Sum {
         digest: with_tightest(placed, found.tightest),
         seed: work_buffer::next_seed(seed),

@@ -13,15 +13,15 @@ use search::Outcome;
 // the job after it: 1 and the best, or 0 alone, and sixteen hues
 pub const START: u64 = 0x73_7461_7274;
 
-// step room = number k gap .. kept: `step` with a work buffer of this length, with the same, and after a refusal whether the work
-// buffer is as it was
+// step room = number k gap .. hi lo: `step` with a work buffer of this length, with the same, and after a refusal the digest of the
+// work buffer
 pub const STEP: u64 = 0x7374_6570;
 
-// steps n room = hi lo kept: n steps: the digest of their numbers and the jobs after them, and whether every one that was refused left
-// its work buffer as it was
+// steps n room = hi lo hi lo: n steps: the digest of their numbers and the jobs after them, and that of the work buffers after those
+// that were refused
 pub const STEPS: u64 = 0x73_7465_7073;
 
-// search k gap room = number k gap .. kept: `search`, with the same as a step
+// search k gap room = number k gap .. hi lo: `search`, with the same as a step
 pub const SEARCH: u64 = 0x7365_6172_6368;
 
 // The number of a refusal, or 0.
@@ -39,13 +39,13 @@ fn came_out(outcome: Outcome) -> Answer {
     case_jobs::shown(Answer::new().with_byte(number_of(outcome)), job)
 }
 
-// What came out of a call with a work buffer; `kept` says whether that is as it was.
-fn worked_out(outcome: Outcome, kept: bool) -> Answer {
+// What came out of a call with a work buffer; `left` is the digest of that after it.
+fn worked_out(outcome: Outcome, left: u64) -> Answer {
     let answer = came_out(outcome);
     if number_of(outcome) == 0 {
         return answer;
     }
-    answer.with_bool(kept)
+    answer.with_digest(left)
 }
 
 // Answers with a start, and gives the job after it.
@@ -62,7 +62,7 @@ fn answer_step(line: Line, table: &[f32], work: &mut [u16], lent: Job) -> Job {
     let seed = work_buffer::seed_of(line.number);
     work_buffer::fill(work, seed);
     let outcome = search::step(table, work, lent);
-    worked_out(outcome, work_buffer::is_kept(work, seed)).write(line);
+    worked_out(outcome, work_buffer::digest_of(work)).write(line);
     outcome.job
 }
 
@@ -73,25 +73,34 @@ fn answer_search(line: Line, table: &[f32], work: &mut [u16], lent: Job) -> Job 
     let settings = case_jobs::settings_of(words);
     work_buffer::fill(work, seed);
     let outcome = search::search(settings, table, work, lent);
-    worked_out(outcome, work_buffer::is_kept(work, seed)).write(line);
+    worked_out(outcome, work_buffer::digest_of(work)).write(line);
     outcome.job
 }
 
-// What came out of steps so far: whether every refused one left its work buffer, the digest of them all, and the last job.
+// What came out of steps so far: the digest of them all, that of the work buffers after those that were refused, and the last job.
 struct Sum {
-    kept: bool,
     digest: u64,
+    left: u64,
     job: Job,
 }
 
+// A digest with the work buffer after a call that was refused by a number; after an accepted one, whose number is 0, what it holds is
+// free, and the digest stays.
+fn left_after(sum: u64, number: u8, work: &[u16]) -> u64 {
+    if number == 0 {
+        return sum;
+    }
+    work_buffer::digested(sum, work)
+}
+
 impl Sum {
-    // With one more step; `kept` says whether the work buffer is as it was.
-    fn with_step(self, outcome: Outcome, kept: bool) -> Sum {
+    // With one more step, and with the digest of work buffers after it.
+    fn with_step(self, outcome: Outcome, left: u64) -> Sum {
         let job = outcome.job;
-        let number = number_of(outcome);
+        let number = number_of(outcome) as u32;
         Sum {
-            kept: self.kept && (number == 0 || kept),
-            digest: case_jobs::digested(digest::with_byte(self.digest, number as u32), job),
+            digest: case_jobs::digested(digest::with_byte(self.digest, number), job),
+            left,
             job,
         }
     }
@@ -101,15 +110,16 @@ impl Sum {
         let lent = self.job;
         work_buffer::fill(work, seed);
         let outcome = search::step(table, work, lent);
-        self.with_step(outcome, work_buffer::is_kept(work, seed))
+        let left = left_after(self.left, number_of(outcome), work);
+        self.with_step(outcome, left)
     }
 }
 
 // So many steps in this work buffer.
 fn steps(count: usize, seed: u32, table: &[f32], work: &mut [u16], lent: Job) -> Sum {
     let mut sum = Sum {
-        kept: true,
         digest: digest::START,
+        left: digest::START,
         job: lent,
     };
     let mut i = 0;
@@ -127,7 +137,7 @@ fn answer_steps(line: Line, table: &[f32], work: &mut [u16], lent: Job) -> Job {
     let sum = steps(size_at(words, 0), seed, table, work, lent);
     Answer::new()
         .with_digest(sum.digest)
-        .with_bool(sum.kept)
+        .with_digest(sum.left)
         .write(line);
     sum.job
 }
