@@ -23,9 +23,9 @@
 //! the hues. A record that is made up has the tightest gap of its hues, 1 where two of them are equal,
 //! and 0 with none so far, unless it is damaged.
 //!
-//! Rooms are those that `rooms` gives, but for searches of the panel's own table and long runs of steps
-//! over it, which have one lap and three alone, and some long runs over 83 levels or more, which have
-//! one.
+//! Rooms are those that `rooms` gives, but for searches of the panel's own table, which have one lap and
+//! three alone, long runs over 83 levels or more, some of which have one, and searches whose room is
+//! written here, which have one of the two: of 259 accepted searches 110 have both.
 //!
 //! A random list has 24 calls or a few more on the same table: starts, steps, runs of steps and whole
 //! searches, some of them with a damaged job, a short work buffer, a table of another length or an
