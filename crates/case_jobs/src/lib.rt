@@ -1,9 +1,9 @@
 // Job records by the words of a line, in an answer and in a digest.
 use case_lines::answers::Answer;
-use case_words::digest;
-use case_words::float_at;
-use case_words::hues;
-use case_words::size_at;
+use case_lines::digest;
+use case_lines::hues;
+use case_lines::words::float_at;
+use case_lines::words::size_at;
 use cases::Words;
 use search_rules::Best;
 use search_rules::Job;

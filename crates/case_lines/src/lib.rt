@@ -1,5 +1,10 @@
-// A list of cases, read from standard input line by line, and the lines that a program answers.
+// A list of cases, read from standard input line by line, what the words of a line say, and the lines that a program answers.
 pub mod answers;
+pub mod digest;
+pub mod entries;
+pub mod hues;
+pub mod words;
+pub mod work_buffer;
 
 use cases::Found;
 use cases::Line;

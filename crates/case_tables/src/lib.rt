@@ -1,10 +1,12 @@
 // The lines that set a table. It is kept in one array, of which the first entries are lent. A line that a list may not have is
 // answered.
-use case_directions::Directions;
+pub mod directions;
+
+use crate::directions::Directions;
 use case_lines::answers;
-use case_words::entries;
-use case_words::float_at;
-use case_words::size_at;
+use case_lines::entries;
+use case_lines::words::float_at;
+use case_lines::words::size_at;
 use cases::Line;
 use cases::Words;
 use gamut::Filling;
@@ -123,7 +125,7 @@ fn set_panel(words: Words, table: &mut [f32], all: Directions) -> bool {
 // Whether an operation sets the table or a direction.
 pub fn sets(operation: u64) -> bool {
     match operation {
-        case_directions::DIR | TABLE | MORE | SAME | COPY | PANEL => true,
+        crate::directions::DIR | TABLE | MORE | SAME | COPY | PANEL => true,
         _ => false,
     }
 }
@@ -202,7 +204,7 @@ impl Tables {
             return self;
         }
         match operation {
-            case_directions::DIR => self.with_dir(words),
+            crate::directions::DIR => self.with_dir(words),
             TABLE => self.with_length(size_at(words, 0)),
             _ => self.with_entries(line, table),
         }

@@ -2,8 +2,8 @@
 use crate::operations;
 use case_lines::answers;
 use case_lines::answers::Answer;
-use case_words::float_at;
-use case_words::word_at;
+use case_lines::words::float_at;
+use case_lines::words::word_at;
 use cases::Line;
 use cases::Words;
 use color::Lab;

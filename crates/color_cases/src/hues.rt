@@ -1,8 +1,8 @@
 // The hues found among the directions.
 use crate::conversions;
-use case_directions::Lending;
 use case_lines::answers;
 use case_lines::answers::Answer;
+use case_tables::directions::Lending;
 use cases::Line;
 use hue::Hue;
 

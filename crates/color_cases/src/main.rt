@@ -4,9 +4,9 @@ mod conversions;
 mod hues;
 mod operations;
 
-use case_directions::Lending;
 use case_lines::Reader;
 use case_lines::answers;
+use case_tables::directions::Lending;
 use cases::Line;
 
 // What the next case is lent after a line, which is answered if it is a case.
@@ -18,9 +18,9 @@ fn take_line(line: Line, lending: Lending) -> Lending {
         return lending;
     }
     match operation {
-        case_directions::DIR => lending.with_dir(words),
-        case_directions::BAD => lending.with_bad(words),
-        case_directions::LEN => lending.with_len(words, 720),
+        case_tables::directions::DIR => lending.with_dir(words),
+        case_tables::directions::BAD => lending.with_bad(words),
+        case_tables::directions::LEN => lending.with_len(words, 720),
         operations::HUE => hues::answer(line, lending),
         _ => {
             conversions::answer(line);

@@ -58,8 +58,8 @@ pub const CLIP: u64 = 0x636c_6970;
 pub fn takes(operation: u64, count: usize) -> bool {
     match operation {
         SQRT | CBRT | LABF | LABFINV => count == 1,
-        case_directions::LEN => count == 2,
-        case_directions::DIR | case_directions::BAD | HUE => count == 3,
+        case_tables::directions::LEN => count == 2,
+        case_tables::directions::DIR | case_tables::directions::BAD | HUE => count == 3,
         S2L | L2S | L2X | X2L | X2LAB | LAB2X | L2LAB | LAB2L | S2LAB | CLAMP | GAMUT | CHROMA => {
             count == 3
         }

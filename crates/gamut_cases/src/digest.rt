@@ -1,5 +1,5 @@
 // The digest of a row: FNV-1a with 64 bits over the bytes of its patterns, the lowest byte of each first.
-use case_words::digest;
+use case_lines::digest;
 
 // The digest of a row.
 pub fn of(row: &[f32]) -> u64 {

@@ -4,9 +4,9 @@ mod digest;
 mod rows;
 mod values;
 
-use case_directions::Lending;
 use case_lines::Reader;
 use case_lines::answers;
+use case_tables::directions::Lending;
 use cases::Line;
 
 // row level = number hi lo: `fill_row`, with the number of its refusal or 0, and the digest of the row after it
@@ -24,9 +24,9 @@ const LOF: u64 = 0x6c_6f66;
 // Whether a line of an operation may have so many words.
 fn takes(operation: u64, count: usize) -> bool {
     match operation {
-        case_directions::DIR | case_directions::BAD | MAXC => count == 3,
-        case_directions::LEN | ENT => count == 2,
-        case_directions::SIZE | ROW | LOF => count == 1,
+        case_tables::directions::DIR | case_tables::directions::BAD | MAXC => count == 3,
+        case_tables::directions::LEN | ENT => count == 2,
+        case_tables::directions::SIZE | ROW | LOF => count == 1,
         _ => false,
     }
 }
@@ -41,10 +41,10 @@ fn take_line(line: Line, lending: Lending) -> Lending {
         return lending;
     }
     match operation {
-        case_directions::DIR => lending.with_dir(words),
-        case_directions::BAD => lending.with_bad(words),
-        case_directions::LEN => lending.with_len(words, 720),
-        case_directions::SIZE => lending.with_size(words, 800),
+        case_tables::directions::DIR => lending.with_dir(words),
+        case_tables::directions::BAD => lending.with_bad(words),
+        case_tables::directions::LEN => lending.with_len(words, 720),
+        case_tables::directions::SIZE => lending.with_size(words, 800),
         ROW => rows::answer(line, lending),
         ENT => {
             values::answer_entry(line, all);

@@ -1,10 +1,10 @@
 // The rows, filled by the directions.
 use crate::digest;
-use case_directions::Lending;
-use case_directions::Lent;
 use case_lines::answers;
 use case_lines::answers::Answer;
-use case_words::size_at;
+use case_lines::words::size_at;
+use case_tables::directions::Lending;
+use case_tables::directions::Lent;
 use cases::Line;
 use gamut::Filling;
 

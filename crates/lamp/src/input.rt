@@ -1,8 +1,8 @@
 // What standard input says: `ask k gap` once, in decimal, and `dir j cos sin` for each direction, in the form of the case lists.
 use crate::numbers;
 use crate::words;
-use case_words::float_at;
-use case_words::size_at;
+use case_lines::words::float_at;
+use case_lines::words::size_at;
 use cases::Found;
 use cases::Line;
 use cases::Words;

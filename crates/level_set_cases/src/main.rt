@@ -4,8 +4,8 @@ mod sets;
 
 use case_lines::Reader;
 use case_lines::answers;
+use case_lines::words::size_at;
 use case_tables::Tables;
-use case_words::size_at;
 use cases::Line;
 use cases::Words;
 

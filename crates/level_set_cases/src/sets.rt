@@ -1,8 +1,8 @@
 // The best of a set of levels.
 use case_lines::answers;
 use case_lines::answers::Answer;
-use case_words::size_at;
-use case_words::work_buffer;
+use case_lines::words::size_at;
+use case_lines::work_buffer;
 use cases::Line;
 use cases::Words;
 use level_set::Chosen;

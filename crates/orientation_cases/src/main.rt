@@ -3,9 +3,9 @@
 use case_lines::Reader;
 use case_lines::answers;
 use case_lines::answers::Answer;
+use case_lines::words::float_at;
+use case_lines::words::size_at;
 use case_tables::Tables;
-use case_words::float_at;
-use case_words::size_at;
 use cases::Line;
 use orientation::Oriented;
 

@@ -1,9 +1,9 @@
 // Pages, each in a buffer that holds other bytes before.
 use case_lines::answers;
 use case_lines::answers::Answer;
-use case_words::digest;
-use case_words::size_at;
-use case_words::word_at;
+use case_lines::digest;
+use case_lines::words::size_at;
+use case_lines::words::word_at;
 use cases::Line;
 use page::Laid;
 use search_rules::Job;

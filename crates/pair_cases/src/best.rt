@@ -1,10 +1,10 @@
 // The best of a pair.
 use case_lines::answers;
 use case_lines::answers::Answer;
-use case_words::entries::Row;
-use case_words::float_at;
-use case_words::size_at;
-use case_words::work_buffer;
+use case_lines::entries::Row;
+use case_lines::words::float_at;
+use case_lines::words::size_at;
+use case_lines::work_buffer;
 use cases::Line;
 use pair::Chosen;
 

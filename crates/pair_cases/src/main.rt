@@ -5,7 +5,7 @@ mod rows;
 
 use case_lines::Reader;
 use case_lines::answers;
-use case_words::word_at;
+use case_lines::words::word_at;
 use cases::Line;
 use rows::Rows;
 

@@ -1,8 +1,8 @@
 // The lines that set the rows.
-use case_words::entries;
-use case_words::entries::Row;
-use case_words::float_at;
-use case_words::size_at;
+use case_lines::entries;
+use case_lines::entries::Row;
+use case_lines::words::float_at;
+use case_lines::words::size_at;
 use cases::Words;
 
 // row w n: row w, which is 0 or 1, has n entries, which are as they were

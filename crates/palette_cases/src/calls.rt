@@ -1,11 +1,11 @@
 // Derivations, validations and back-offs.
 use crate::colors;
-use case_directions::Lending;
-use case_directions::Lent;
 use case_lines::answers;
 use case_lines::answers::Answer;
-use case_words::float_at;
-use case_words::size_at;
+use case_lines::words::float_at;
+use case_lines::words::size_at;
+use case_tables::directions::Lending;
+use case_tables::directions::Lent;
 use cases::Line;
 use cases::Words;
 use metrics::Metrics;

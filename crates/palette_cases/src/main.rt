@@ -3,11 +3,11 @@
 mod calls;
 mod colors;
 
-use case_directions::Lending;
 use case_lines::Reader;
 use case_lines::answers;
-use case_words::hues;
-use case_words::size_at;
+use case_lines::hues;
+use case_lines::words::size_at;
+use case_tables::directions::Lending;
 use cases::Line;
 use cases::Words;
 use palette::Design;
@@ -29,8 +29,8 @@ struct State {
 // Whether a line of an operation may have so many words.
 fn takes(operation: u64, count: usize) -> bool {
     match operation {
-        case_directions::DIR | case_directions::BAD => count == 3,
-        case_directions::LEN | calls::VALIDATE => count == 2,
+        case_tables::directions::DIR | case_tables::directions::BAD => count == 3,
+        case_tables::directions::LEN | calls::VALIDATE => count == 2,
         calls::DERIVE | calls::BACKOFF => count == 1,
         DESIGN => 3 <= count && count <= 19,
         COLORS => 1 <= count && count <= 32,
@@ -105,9 +105,9 @@ impl State {
             return self;
         }
         match operation {
-            case_directions::DIR => self.with_lending(lending.with_dir(words)),
-            case_directions::BAD => self.with_lending(lending.with_bad(words)),
-            case_directions::LEN => self.with_lending(lending.with_len(words, 721)),
+            case_tables::directions::DIR => self.with_lending(lending.with_dir(words)),
+            case_tables::directions::BAD => self.with_lending(lending.with_bad(words)),
+            case_tables::directions::LEN => self.with_lending(lending.with_len(words, 721)),
             DESIGN => self.with_design(words),
             COLORS => self.with_colors(words),
             _ => self.answered(line),

@@ -6,9 +6,9 @@ mod sweeps;
 
 use case_lines::Reader;
 use case_lines::answers;
-use case_words::entries;
-use case_words::entries::Row;
-use case_words::size_at;
+use case_lines::entries;
+use case_lines::entries::Row;
+use case_lines::words::size_at;
 use cases::Line;
 
 // ring n e ..: the ring has n entries, the first of which are these; the others are as they were

@@ -3,10 +3,10 @@
 // none, 255 for a placement, the number of a refusal; what is asked here is never refused. Sixteen hues and the
 // tightest gap follow, two bytes each, the low one first.
 use case_lines::answers::Answer;
-use case_words::digest;
-use case_words::entries::Row;
-use case_words::float_at;
-use case_words::work_buffer;
+use case_lines::digest;
+use case_lines::entries::Row;
+use case_lines::words::float_at;
+use case_lines::work_buffer;
 use cases::Line;
 use cases::Words;
 

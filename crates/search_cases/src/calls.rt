@@ -1,9 +1,9 @@
 // Starts, steps and whole searches.
 use case_lines::answers;
 use case_lines::answers::Answer;
-use case_words::digest;
-use case_words::size_at;
-use case_words::work_buffer;
+use case_lines::digest;
+use case_lines::words::size_at;
+use case_lines::work_buffer;
 use cases::Line;
 use cases::Words;
 use search::Job;

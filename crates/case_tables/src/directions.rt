@@ -1,9 +1,9 @@
 // The lines that set directions, and those by which the next case is lent others, or a row of another length. One that a list
 // may not have is answered.
 use case_lines::answers;
-use case_words::float_at;
-use case_words::size_at;
-use case_words::word_at;
+use case_lines::words::float_at;
+use case_lines::words::size_at;
+use case_lines::words::word_at;
 use cases::Words;
 
 // dir j cos sin: sets direction j

@@ -5,7 +5,7 @@ use cases::Words;
 fn hue_at(words: Words, from: usize, count: usize, place: usize) -> u16 {
     let at = std::num::wrapping_add_usize(from, place);
     if at < count {
-        return (crate::word_at(words, at) % 0x1_0000) as u16;
+        return (crate::words::word_at(words, at) % 0x1_0000) as u16;
     }
     0
 }

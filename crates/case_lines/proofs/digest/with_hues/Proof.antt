@@ -1,8 +1,8 @@
--- `case_words::digest::with_hues` is safe and ends: it goes over the sixteen hues. Assumes nothing.
+-- `case_lines::digest::with_hues` is safe and ends: it goes over the sixteen hues. Assumes nothing.
 use Prim.Native.Nat.{_≤_, _-_}
 use borrow.Author.Needs.{needs}
-use Rattle.case_words.proofs.digest.with_hues.Statement.{statement}
-use Rattle.case_words.proofs.digest.with_hues.Tie as tie
+use Rattle.case_lines.proofs.digest.with_hues.Statement.{statement}
+use Rattle.case_lines.proofs.digest.with_hues.Tie as tie
 
 abbrev Inv-loop : tie.InvT-loop
 Inv-loop digest hues to₀ i₀ to i = i ≤ 16

@@ -1,8 +1,8 @@
--- `case_words::hues::sixteen` is safe and ends: it goes over the sixteen hues. Assumes nothing.
+-- `case_lines::hues::sixteen` is safe and ends: it goes over the sixteen hues. Assumes nothing.
 use Prim.Native.Nat.{_≤_, _-_}
 use borrow.Author.Needs.{needs}
-use Rattle.case_words.proofs.hues.sixteen.Statement.{statement}
-use Rattle.case_words.proofs.hues.sixteen.Tie as tie
+use Rattle.case_lines.proofs.hues.sixteen.Statement.{statement}
+use Rattle.case_lines.proofs.hues.sixteen.Tie as tie
 
 abbrev Inv-loop : tie.InvT-loop
 Inv-loop words from count hues₀ i₀ hues i = i ≤ 16

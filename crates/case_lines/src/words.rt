@@ -1,9 +1,4 @@
-// What the words of a case say, and what the programs that answer cases make of their results.
-pub mod digest;
-pub mod entries;
-pub mod hues;
-pub mod work_buffer;
-
+// What the words of a case say.
 use cases::MOST;
 use cases::Words;
 

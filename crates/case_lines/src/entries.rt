@@ -51,7 +51,7 @@ pub fn put(row: &mut [f32], at: usize, words: Words, from: usize, count: usize) 
     let mut to = at;
     let mut i = from;
     while i < count {
-        put_one(row, to, crate::float_at(words, i));
+        put_one(row, to, crate::words::float_at(words, i));
         to = std::num::wrapping_add_usize(to, 1);
         i += 1;
     }

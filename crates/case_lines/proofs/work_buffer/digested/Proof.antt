@@ -1,9 +1,9 @@
--- `case_words::work_buffer::digested` is safe and ends: it goes over the buffer. Assumes nothing.
+-- `case_lines::work_buffer::digested` is safe and ends: it goes over the buffer. Assumes nothing.
 use Prim.Native.Nat.{_≤_, _-_}
 use lib.ListN.{length}
 use borrow.Author.Needs.{needs}
-use Rattle.case_words.proofs.work_buffer.digested.Statement.{statement}
-use Rattle.case_words.proofs.work_buffer.digested.Tie as tie
+use Rattle.case_lines.proofs.work_buffer.digested.Statement.{statement}
+use Rattle.case_lines.proofs.work_buffer.digested.Tie as tie
 
 abbrev Inv-loop : tie.InvT-loop
 Inv-loop sum work to₀ i₀ to i = i ≤ length work
