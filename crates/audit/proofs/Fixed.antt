@@ -10,18 +10,23 @@ use Rattle.limits.specs.Answers.{value}
 use Rattle.limits.specs.Taken.{f32Of}
 use Rattle.limits.specs.Each.{Each, F32}
 use Rattle.halving.specs.Patterns.{next}
+use Rattle.search_rules.specs.declared.Settings.{Settings}
 use Rattle.search_rules.specs.declared.Best.the-variants.{None, Found}
 use Rattle.search_rules.specs.declared.Job.{Job}
-use Rattle.orientation_rules.specs.Orientation.{Best, none, found, asked, orientationSays}
+use Rattle.orientation_rules.specs.Orientation.{Best, none, found, orientationSays}
 use Rattle.orientation_rules.specs.Fixed.{Fixed, chromaOf}
 use Rattle.orientation_rules.proofs.Partners.{to-spaced}
 use Rattle.orientation_rules.proofs.Accepted.{orientation-only}
 use Rattle.orientation_rules.proofs.Meaning.{none-where, fixed-is-greatest}
 use Rattle.audit.specs.Panel.{Arrangement, HandsOut}
 
-module _ (gap : Float) (t : List Float) (f32 : Each F32 t) (j : Job) (hands-out : HandsOut t (asked gap) j) (hue : ℕ) where
+-- the settings of a job for two hues with this gap
+abbrev pub forTwo : Float → Settings
+forTwo gap = record { k = 2; gap = gap }
+
+module _ (gap : Float) (t : List Float) (f32 : Each F32 t) (j : Job) (hands-out : HandsOut t (forTwo gap) j) (hue : ℕ) where
   -- a qualifying pair with a partner of the fixed hue is an arrangement of two hues
-  abbrev pub arranged : hue ≤ 719 → Fixed t gap hue → Arrangement t (asked gap)
+  abbrev pub arranged : hue ≤ 719 → Fixed t gap hue → Arrangement t (forTwo gap)
   arranged H x = record {
     dark = x .dark;
     light = x .light;

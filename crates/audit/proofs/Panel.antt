@@ -11,6 +11,7 @@ use lib.Ieee.{Float}
 use lib.ListN.{length}
 use Rattle.limits.specs.Answers.{value}
 use Rattle.limits.specs.Each.{Each, F32}
+use Rattle.limits.proofs.Checks.{same-value}
 use Rattle.gamut.specs.Table.{levelsIn}
 use Rattle.placement_rules.specs.Placing.{workNeeded}
 use Rattle.search_rules.specs.declared.Settings.{Settings}
@@ -20,7 +21,7 @@ use Rattle.search_rules.specs.Job.{searchSays}
 use Rattle.search_rules.specs.Runs.{Call, began, Choice, Promise, run, history, since, OverOneTable, steps, wholeSearch}
 use Rattle.search_rules.specs.Accepted.{StartTaken, RunsToEnd}
 use Rattle.search_rules.proofs.Rows.{Good}
-use Rattle.search_rules.proofs.Accepted.{same-job, search-only, good-table}
+use Rattle.search_rules.proofs.Accepted.{search-only, good-table}
 use Rattle.search_rules.proofs.Goes.{all-accepted, search-is-run}
 use Rattle.search_rules.proofs.Runs.{whole-runs}
 use Rattle.search_rules.proofs.KeptJobs.{run-on, finishes}
@@ -77,7 +78,7 @@ module _ (s : Settings) (t : List Float) where
     pub search-is-limit : HandsOut t s j
     search-is-limit =
         let a = all-accepted t good work (conditions .1) s (conditions .0) j in
-        subst (HandsOut t s) (same-job (run (wholeSearch s t work) j) j (sym (search-is-run t good work (conditions .1) s (conditions .0) j) ∙ said)) (stepped-is-limit (wholeSearch s t work) j f32 (a .1) (a .0))
+        subst (HandsOut t s) (same-value (run (wholeSearch s t work) j) j (sym (search-is-run t good work (conditions .1) s (conditions .0) j) ∙ said)) (stepped-is-limit (wholeSearch s t work) j f32 (a .1) (a .0))
 
   -- ---- a job run to its end, from wherever the calls so far have left it
   pub run-to-end-is-limit : (calls : List Call) (j : Job) → Each F32 t → OverOneTable t calls j → (n : ℕ) → history calls j ≡ since s n → (work : List ℕ) → 720 ≤ length work

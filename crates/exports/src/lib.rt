@@ -13,7 +13,7 @@ ghost use mathlib.Core.Path.{_≡_};
 ghost use mathlib.Core.List.{map};
 ghost use Prim.Native.Nat.{ℕ};
 ghost use lib.ListN.{length};
-ghost use Rattle.limits.specs.Answers.{refused};
+ghost use Rattle.limits.specs.Answers.{Untouched};
 ghost use Rattle.placement_rules.specs.Placing.{placementSays, tightestBeside};
 ghost use Rattle.pair_rules.specs.Pair as pair;
 ghost use Rattle.pair_rules.specs.Pair.{pairSays};
@@ -37,7 +37,8 @@ const NONE_PASSES: u32 = 240;
 // the row is as before.
 #[no_mangle]
 pub extern "C" fn tengcuvo_fill_row(level: usize, cos: &[f32], sin: &[f32], row: &mut [f32]) -> u32
-    ensures { λ r. ⌜ (r ≡ numberOf (fillSays level (now (cos .entry)) (now (sin .entry)) (now (row .entry)))) × (now (row .exit) ≡ rowAfter level (now (cos .entry)) (now (sin .entry)) (now (row .entry))) ⌝ }
+    ensures { λ r. ⌜ (r ≡ numberOf (fillSays level (now (cos .entry)) (now (sin .entry)) (now (row .entry))))
+        × (now (row .exit) ≡ rowAfter level (now (cos .entry)) (now (sin .entry)) (now (row .entry))) ⌝ }
 {
     handing::fill_row(level, cos, sin, row)
 }
@@ -55,9 +56,12 @@ pub extern "C" fn tengcuvo_place(
     hues: &mut [u16; 16],
     tightest: &mut [usize; 1],
 ) -> u32
-    ensures { λ r. ⌜ (r ≡ placeNumber (placementSays k step c (now (m .entry)) (length (now (work .entry))))) × (now (hues .exit) ≡ huesAfter (placementSays k step c (now (m .entry)) (length (now (work .entry)))) (now (hues .entry))) ⌝ }
-    ensures { λ r. ⌜ now (tightest .exit) ≡ gapAfter (placementSays k step c (now (m .entry)) (length (now (work .entry)))) (tightestBeside (length (now (m .entry))) k (placementSays k step c (now (m .entry)) (length (now (work .entry))))) (now (tightest .entry)) ⌝ }
-    ensures { λ r. ⌜ ((w : ℕ) → placementSays k step c (now (m .entry)) (length (now (work .entry))) ≡ refused w → now (work .exit) ≡ now (work .entry)) ⌝ }
+    ensures { λ r. ⌜ (r ≡ placeNumber (placementSays k step c (now (m .entry)) (length (now (work .entry)))))
+        × (now (hues .exit) ≡ huesAfter (placementSays k step c (now (m .entry)) (length (now (work .entry)))) (now (hues .entry))) ⌝ }
+    ensures { λ r. ⌜ now (tightest .exit) ≡
+        gapAfter (placementSays k step c (now (m .entry)) (length (now (work .entry))))
+        (tightestBeside (length (now (m .entry))) k (placementSays k step c (now (m .entry)) (length (now (work .entry))))) (now (tightest .entry)) ⌝ }
+    ensures { λ r. ⌜ Untouched (placementSays k step c (now (m .entry)) (length (now (work .entry)))) (now (work .entry)) (now (work .exit)) ⌝ }
 {
     handing::place(m, c, k, step, work, hues, tightest)
 }
@@ -77,23 +81,15 @@ pub extern "C" fn tengcuvo_best(
     tightest: &mut [usize; 1],
     chroma: &mut [f32; 1],
 ) -> u32
-    ensures { λ r. ⌜ (r ≡ bestNumber (pairSays k step floor (now (a .entry)) (now (b .entry)) (length (now (work .entry))))) × ((now (hues .exit) ≡ bestHues (pairSays k step floor (now (a .entry)) (now (b .entry)) (length (now (work .entry)))) (now (hues .entry))) × (now (chroma .exit) ≡ bestChroma (pairSays k step floor (now (a .entry)) (now (b .entry)) (length (now (work .entry)))) (now (chroma .entry)))) ⌝ }
-    ensures { λ r. ⌜ now (tightest .exit) ≡ gapAfter (pairSays k step floor (now (a .entry)) (now (b .entry)) (length (now (work .entry)))) (pair.tightestBeside (length (now (a .entry))) k (pairSays k step floor (now (a .entry)) (now (b .entry)) (length (now (work .entry))))) (now (tightest .entry)) ⌝ }
-    ensures { λ r. ⌜ ((w : ℕ) → pairSays k step floor (now (a .entry)) (now (b .entry)) (length (now (work .entry))) ≡ refused w → now (work .exit) ≡ now (work .entry)) ⌝ }
+    ensures { λ r. ⌜ (r ≡ bestNumber (pairSays k step floor (now (a .entry)) (now (b .entry)) (length (now (work .entry)))))
+        × ((now (hues .exit) ≡ bestHues (pairSays k step floor (now (a .entry)) (now (b .entry)) (length (now (work .entry)))) (now (hues .entry)))
+        × (now (chroma .exit) ≡ bestChroma (pairSays k step floor (now (a .entry)) (now (b .entry)) (length (now (work .entry)))) (now (chroma .entry)))) ⌝ }
+    ensures { λ r. ⌜ now (tightest .exit) ≡
+        gapAfter (pairSays k step floor (now (a .entry)) (now (b .entry)) (length (now (work .entry))))
+        (pair.tightestBeside (length (now (a .entry))) k (pairSays k step floor (now (a .entry)) (now (b .entry)) (length (now (work .entry))))) (now (tightest .entry)) ⌝ }
+    ensures { λ r. ⌜ Untouched (pairSays k step floor (now (a .entry)) (now (b .entry)) (length (now (work .entry)))) (now (work .entry)) (now (work .exit)) ⌝ }
 {
     handing::best(a, b, k, step, floor, work, hues, tightest, chroma)
-}
-
-// The job that a whole search is lent, of which nothing is handed out.
-fn blank(settings: Settings) -> Job {
-    Job {
-        settings,
-        levels: 0,
-        position: 0,
-        best: Best::None,
-        hues: [0u16; 16],
-        tightest: 0,
-    }
 }
 
 // The whole search of a table for k hues, on levels at least gap + 1 apart, gap being from 40 to 84: gives 0 with the chroma, sixteen
@@ -110,12 +106,13 @@ pub extern "C" fn tengcuvo_search(
     levels: &mut [usize; 2],
     chroma: &mut [f32; 1],
 ) -> u32
-    ensures { λ r. ⌜ handed r (now (hues .exit)) (now (levels .exit)) (now (chroma .exit)) ≡ searchHands (searchSays (settingsOf k gap) (now (table .entry)) (length (now (work .entry)))) (now (hues .entry)) (now (levels .entry)) (now (chroma .entry)) ⌝ }
+    ensures { λ r. ⌜ handed r (now (hues .exit)) (now (levels .exit)) (now (chroma .exit)) ≡
+        searchHands (searchSays (settingsOf k gap) (now (table .entry)) (length (now (work .entry)))) (now (hues .entry)) (now (levels .entry)) (now (chroma .entry)) ⌝ }
     ensures { λ r. ⌜ now (tightest .exit) ≡ searchGap (searchSays (settingsOf k gap) (now (table .entry)) (length (now (work .entry)))) (now (tightest .entry)) ⌝ }
-    ensures { λ r. ⌜ ((w : ℕ) → searchSays (settingsOf k gap) (now (table .entry)) (length (now (work .entry))) ≡ refused w → now (work .exit) ≡ now (work .entry)) ⌝ }
+    ensures { λ r. ⌜ Untouched (searchSays (settingsOf k gap) (now (table .entry)) (length (now (work .entry)))) (now (work .entry)) (now (work .exit)) ⌝ }
 {
     let settings = Settings { k, gap };
-    let outcome = search::search(settings, table, work, blank(settings));
+    let outcome = search::search(settings, table, work, search::begin(settings, 0));
     let answer = outcome.answer;
     let job = outcome.job;
     let best = job.best;
@@ -153,7 +150,8 @@ pub extern "C" fn tengcuvo_orientation(
     levels: &mut [usize; 2],
     chroma: &mut [f32; 1],
 ) -> u32
-    ensures { λ r. ⌜ handed r (now (hues .exit)) (now (levels .exit)) (now (chroma .exit)) ≡ orientationHands hue (orientationSays gap (now (table .entry)) hue) (now (hues .entry)) (now (levels .entry)) (now (chroma .entry)) ⌝ }
+    ensures { λ r. ⌜ handed r (now (hues .exit)) (now (levels .exit)) (now (chroma .exit)) ≡
+        orientationHands hue (orientationSays gap (now (table .entry)) hue) (now (hues .entry)) (now (levels .entry)) (now (chroma .entry)) ⌝ }
 {
     let oriented = orientation::best_at_orientation(gap, table, hue);
     let answer = oriented.answer;
@@ -185,8 +183,10 @@ pub extern "C" fn tengcuvo_level_set(
     hues: &mut [u16; 16],
     chroma: &mut [f32; 1],
 ) -> u32
-    ensures { λ r. ⌜ (r ≡ bestNumber (setSays k (now (table .entry)) (now (levels .entry)) (length (now (work .entry))))) × ((now (hues .exit) ≡ bestHues (setSays k (now (table .entry)) (now (levels .entry)) (length (now (work .entry)))) (now (hues .entry))) × (now (chroma .exit) ≡ bestChroma (setSays k (now (table .entry)) (now (levels .entry)) (length (now (work .entry)))) (now (chroma .entry)))) ⌝ }
-    ensures { λ r. ⌜ ((w : ℕ) → setSays k (now (table .entry)) (now (levels .entry)) (length (now (work .entry))) ≡ refused w → now (work .exit) ≡ now (work .entry)) ⌝ }
+    ensures { λ r. ⌜ (r ≡ bestNumber (setSays k (now (table .entry)) (now (levels .entry)) (length (now (work .entry)))))
+        × ((now (hues .exit) ≡ bestHues (setSays k (now (table .entry)) (now (levels .entry)) (length (now (work .entry)))) (now (hues .entry)))
+        × (now (chroma .exit) ≡ bestChroma (setSays k (now (table .entry)) (now (levels .entry)) (length (now (work .entry)))) (now (chroma .entry)))) ⌝ }
+    ensures { λ r. ⌜ Untouched (setSays k (now (table .entry)) (now (levels .entry)) (length (now (work .entry)))) (now (work .entry)) (now (work .exit)) ⌝ }
 {
     handing::hand(
         level_set::best_for_level_set(table, levels, k, work),
@@ -224,7 +224,9 @@ pub extern "C" fn tengcuvo_page(
     page: &mut [u8],
     written: &mut [usize; 1],
 ) -> u32
-    ensures { λ r. ⌜ paged r (now (page .exit)) (now (written .exit)) ≡ pageHands (pageSays (jobOf k gap levels position (bestOf found chroma dark light) (now (hues .entry)) tightest) (length (now (page .entry)))) (jobOf k gap levels position (bestOf found chroma dark light) (now (hues .entry)) tightest) (now (page .entry)) (now (written .entry)) ⌝ }
+    ensures { λ r. ⌜ paged r (now (page .exit)) (now (written .exit)) ≡
+        pageHands (pageSays (jobOf k gap levels position (bestOf found chroma dark light) (now (hues .entry)) tightest) (length (now (page .entry))))
+        (jobOf k gap levels position (bestOf found chroma dark light) (now (hues .entry)) tightest) (now (page .entry)) (now (written .entry)) ⌝ }
 {
     let indices = *hues;
     let job = Job {
@@ -274,7 +276,9 @@ pub extern "C" fn tengcuvo_back_off(
     colors: &mut [u32; 32],
     passed: &mut [f32; 1],
 ) -> u32
-    ensures { λ r. ⌜ backed r (now (colors .exit)) (now (passed .exit)) ≡ backOffHands (designOf k dark light (now (hues .entry))) (now (cos .entry)) (now (sin .entry)) (backOffSays (designOf k dark light (now (hues .entry))) chroma (now (cos .entry)) (now (sin .entry))) (now (colors .entry)) (now (passed .entry)) ⌝ }
+    ensures { λ r. ⌜ backed r (now (colors .exit)) (now (passed .exit)) ≡
+        backOffHands (designOf k dark light (now (hues .entry))) (now (cos .entry)) (now (sin .entry))
+        (backOffSays (designOf k dark light (now (hues .entry))) chroma (now (cos .entry)) (now (sin .entry))) (now (colors .entry)) (now (passed .entry)) ⌝ }
 {
     let indices = *hues;
     let design = Design {

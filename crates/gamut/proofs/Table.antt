@@ -2,7 +2,7 @@
 -- are, that they are taken where the table's are, and that they are f32 where the table's are. Assumes nothing.
 use mathlib.Core.Path.{_≡_, ap, _∙_}
 use mathlib.Core.Bool.{Bool, true, _&&_}
-use mathlib.Core.List.{List}
+use mathlib.Core.List.{List, [], _∷_}
 use Prim.Native.Nat.{ℕ, suc, _+_, _-_, _*_, _/_, _≤_, _<_}
 use native.Mathlib.Nat.{mul-le-mul-right, suc-mul, mul-div-cancel, min-eq-left}
 use native.Mathlib.Omega.{arith}
@@ -13,6 +13,7 @@ use lib.Seq.{getD-take, getD-drop}
 use borrow.Author.Tests.{leb-true, eqb-true, le-leb, eq-eqb}
 use Rattle.limits.specs.Taken.{entryTaken, every}
 use Rattle.limits.specs.Each.{Each, F32}
+use Rattle.limits.proofs.Checks.{Check, check}
 use Rattle.limits.proofs.HueCount.{both}
 use Rattle.limits.proofs.Lists.{each-take, each-drop, every-take, every-drop}
 use Rattle.gamut.specs.Table.{levelsIn, rowAt, tableTaken}
@@ -70,3 +71,7 @@ row-taken table i h = every-take entryTaken 720 (drop (i * 720) table) (every-dr
 pub row-f32 : (table : List Float) (i : ℕ) → Each F32 table → Each F32 (rowAt table i)
 unfolding rowAt
 row-f32 table i h = each-take F32 720 (drop (i * 720) table) (each-drop F32 (i * 720) table h)
+
+-- ---- the checks of a table that is read whole, as a list
+abbrev pub table-checks : List Float → List Check
+table-checks table = check (tableTaken table) 6 ∷ check (every entryTaken table) 7 ∷ []

@@ -1,12 +1,15 @@
 // The table of what a panel can show: for each lightness and hue the chroma that 40 halvings over the gamut test of sRGB end at.
 // `Gamut` and `max_chroma` of xtask/src/palette.rs, with lent directions and one row filled at a call.
 // Its cases are in `gamut_cases`.
+use limits::Checked;
 use limits::Refusal;
 ghost use mathlib.Core.Path.{_≡_};
 ghost use Prim.Native.Nat.{_≤_};
 ghost use lib.ListN.{length};
+ghost use Rattle.limits.specs.Answers.{value};
+ghost use Rattle.limits.specs.Refusals.{checkSaid};
 ghost use Rattle.gamut.specs.Gamut.{levelOf, maxChroma, fillSaid, fillSays, rowAfter, rowOf};
-ghost use Rattle.gamut.specs.Table.{tableTaken};
+ghost use Rattle.gamut.specs.Table.{tableTaken, tableChecked};
 
 // The shape of a table: rows of 720 entries, one for each level, lent as one slice. The calls take the slice itself; the type is where
 // the table constants stand.
@@ -42,6 +45,19 @@ pub fn takes_table(table: &[f32]) -> bool
     let n = table.len();
     let levels = n / Gamut::HUES;
     n == levels * Gamut::HUES && 1 <= levels && levels <= Gamut::LEVELS
+}
+
+// The first refusal of a table that is read whole, of 6 and 7.
+pub fn check_table(table: &[f32]) -> Checked
+    ensures { λ r. ⌜ checkSaid r ≡ tableChecked (now (table .entry)) (value tt) ⌝ }
+{
+    if !takes_table(table) {
+        return Checked::Wrong(Refusal::TableLength);
+    }
+    if !limits::takes_entries(table) {
+        return Checked::Wrong(Refusal::Entry);
+    }
+    Checked::Fine
 }
 
 // Whether a row was filled, or why not.
@@ -96,7 +112,8 @@ fn fill(l: f32, cos: &[f32], sin: &[f32], row: &mut [f32])
 
 // Fills the row of one level, by 720 lent directions.
 pub fn fill_row(level: usize, cos: &[f32], sin: &[f32], row: &mut [f32]) -> Filling
-    ensures { λ r. ⌜ (fillSaid r ≡ fillSays level (now (cos .entry)) (now (sin .entry)) (now (row .entry))) × (now (row .exit) ≡ rowAfter level (now (cos .entry)) (now (sin .entry)) (now (row .entry))) ⌝ }
+    ensures { λ r. ⌜ (fillSaid r ≡ fillSays level (now (cos .entry)) (now (sin .entry)) (now (row .entry)))
+        × (now (row .exit) ≡ rowAfter level (now (cos .entry)) (now (sin .entry)) (now (row .entry))) ⌝ }
 {
     if limits::takes_directions(cos, sin) {
         if row.len() == Gamut::HUES {

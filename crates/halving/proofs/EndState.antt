@@ -8,14 +8,14 @@ use Prim.Native.Nat.{ℕ, suc, _+_, _-_, _*_, _/_, _%_, _^_, _≤_, _<_}
 use native.Mathlib.Nat.{le-trans, le-of-eq, le-refl, mul-assoc, suc-mul}
 use native.Mathlib.Omega.{arith}
 use lib.Dec.{T}
-use lib.Pow.{pow-add, pow-pos, pow-mono}
+use lib.Pow.{pow-add, pow-pos}
 use lib.Ieee.{Float, binary32, ofBits, toBits, fits, le, ofInt}
 use borrow.Author.Tests.{leb-true, le-leb}
 use Rattle.limits.specs.Taken.{f32Of, upTo}
 use Rattle.halving.specs.Midpoint.{halved}
 use Rattle.halving.specs.Patterns.{worth, next}
 use Rattle.halving.specs.Ends.{Closed, Within}
-use Rattle.halving.proofs.Least.{below-or-not}
+use Rattle.limits.proofs.Numbers.{below-or-not, power}
 use Rattle.halving.proofs.Patterns.{worth-small, worth-normal, worth-le}
 use Rattle.halving.proofs.Halve.{joined}
 use Rattle.halving.proofs.Width.{Gaps, After, after}
@@ -43,9 +43,6 @@ gap-small b h = elim (below-or-not (suc b) 8388608) [ inl k ↦ plain k | inr k 
         let e : suc b ≡ 0 * 8388608 + 8388608 = omega arith in
         let f : 8388608 * 1 ≡ b + 1 = omega arith in
         ap worth e ∙ worth-normal 0 8388608 (omega arith) (omega arith) ∙ f ∙ ap (λ (z : ℕ). z + 1) (sym (worth-small b h))
-
-power : (i j : ℕ) → i ≤ j → 2 ^ i ≤ 2 ^ j
-power i j h = pow-mono h
 
 -- from 32 to 256
 gaps-high : (p q : ℕ) → 1107296256 ≤ p → q ≤ 1132462080 → Gaps (2 ^ 131) (2 ^ 133) p q

@@ -1,22 +1,13 @@
 -- `least` finds what it says, for a test that holds from some number on: the test holds there, and nowhere below. Assumes nothing.
 use mathlib.Core.Path.{_≡_, refl, sym, ap, _∙_, subst}
-use mathlib.Core.Logic.{_⊎_, inl, inr}
+use mathlib.Core.Logic.{inl, inr}
 use mathlib.Core.Bool.{Bool, true, false, cond}
 use Prim.Native.Nat.{ℕ, zero, suc, _+_, _-_, _*_, _^_, _≤_, _<_}
 use native.Mathlib.Nat.{pow-suc, add-zero}
 use native.Mathlib.Omega.{arith}
-use lib.Dec.{leb}
 use lib.Pow.{pow-pos}
-use borrow.Author.Tests.{leb-true, leb-false}
+use Rattle.limits.proofs.Numbers.{below-or-not}
 use Rattle.halving.specs.Patterns.{least}
-
--- a number is below another, or not
-pub below-or-not : (a b : ℕ) → (a < b) ⊎ (b ≤ a)
-below-or-not a b = go (leb b a) refl
-  where
-    go : (t : Bool) → leb b a ≡ t → (a < b) ⊎ (b ≤ a)
-    go true e = inr (leb-true b a e)
-    go false e = inl (leb-false b a e)
 
 abbrev pub Lasting : (ℕ → Bool) → Type 0
 Lasting p = (i j : ℕ) → i ≤ j → p i ≡ true → p j ≡ true

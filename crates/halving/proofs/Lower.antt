@@ -3,7 +3,7 @@ use mathlib.Core.Path.{_≡_, refl, sym, ap, _∙_, subst}
 use mathlib.Core.Logic.{inl, inr}
 use mathlib.Core.Bool.{true, false, true≢false}
 use Prim.Native.Nat.{ℕ, suc, _+_, _-_, _*_, _^_, _≤_, _<_}
-use native.Mathlib.Nat.{le-trans, le-of-eq, lt-of-le-of-lt, lt-of-lt-of-le, not-le-of-lt, mul-assoc, mul-comm, mul-right-comm, mul-one, mul-sub, mul-pos, mul-le-mul-right, suc-mul, le-of-mul-le-mul-right}
+use native.Mathlib.Nat.{le-trans, le-of-eq, lt-of-le-of-lt, lt-of-lt-of-le, not-le-of-lt, mul-assoc, mul-comm, mul-right-comm, mul-one, mul-pos, mul-le-mul-right, suc-mul, le-of-mul-le-mul-right}
 use native.Mathlib.Omega.{arith}
 use lib.Dec.{T}
 use lib.Pow.{pow-pos, pow-mono}
@@ -18,7 +18,7 @@ use borrow.Author.Tests.{leb-true, le-ltb}
 use Rattle.limits.specs.Taken.{signBit, rootOperandTaken, f32Of}
 use Rattle.limits.proofs.Floats.{never, operand-pattern, round-sign}
 use Rattle.halving.specs.Patterns.{worth}
-use Rattle.halving.proofs.Least.{below-or-not}
+use Rattle.limits.proofs.Numbers.{below-or-not, minus}
 use Rattle.halving.proofs.Patterns.{Normal, small-or-normal, worth-small, worth-normal, worth-le}
 use Rattle.halving.proofs.Midway.{Units}
 use Rattle.halving.proofs.Plain.{Plain, compared, plain-units}
@@ -40,9 +40,6 @@ sub-values (fin false m e) (fin false n d) a b u P h v w =
     let y : B * u ≡ b * D = mul-right-comm (n * up d) (down e) u ∙ ap (λ (z : ℕ). z * down e) (w .1) ∙ mul-assoc b (down d) (down e) ∙ ap (λ (z : ℕ). b * z) (mul-comm (down d) (down e)) in
     let l : B ≤ A = le-of-mul-le-mul-right (le-trans (le-of-eq y) (le-trans (mul-le-mul-right D h) (le-of-eq (sym x)))) P in
     rw (le-ltb A B l) (round-same binary32 false (A - B) D (a - b) u (mul-pos (down-pos e) (down-pos d)) P (minus A B u ∙ ap (λ (z : ℕ). z - B * u) x ∙ ap (λ (z : ℕ). a * D - z) y ∙ sym (minus a b D)))
-  where
-    minus : (p q c : ℕ) → (p - q) * c ≡ p * c - q * c
-    minus p q c = simp (mul-comm, mul-sub)
 
 -- ---- what is at most a number of a units, with its sign bit clear
 plain-below : (z y : Float) (a : ℕ) → T (fits binary32 z) → signBit z ≡ false → T (le z y) → Units y a → Plain z

@@ -7,7 +7,7 @@ use Prim.Native.Nat.{ℕ, suc, _+_, _-_, _*_, _/_, _%_, _^_, _≤_, _<_, compare
 use native.Mathlib.Nat.{le-trans, le-of-eq, le-refl, lt-of-le-of-lt, lt-of-lt-of-le, not-le-of-lt, mul-assoc, mul-comm, mul-right-comm, mul-one, one-mul, add-mul, mul-pos, mul-le-mul-right, mul-le-mul-left, eq-of-mul-eq-mul-right, div-one, zero-add, pow-suc, pow-succ'}
 use native.Mathlib.Omega.{arith}
 use lib.Dec.{T}
-use lib.Pow.{pow-add, pow-pos, pow-mono, pow-lt}
+use lib.Pow.{pow-add, pow-pos, pow-lt}
 use lib.Ieee.{Float, nan, inf, fin, binary32, up, down, size, round, sum, add, mul, fits}
 use lib.Ieee.Digits.{size-lt, size-le, size-reaches}
 use lib.Ieee.Exact.{HasValue, round-exact}
@@ -17,12 +17,9 @@ use lib.Ieee.Order.{drop}
 use lib.Ieee.Scale.{round-same, round-val, grid}
 use Rattle.halving.specs.Midpoint.{midpoint}
 use Rattle.halving.specs.Patterns.{worth}
-use Rattle.halving.proofs.Least.{below-or-not}
+use Rattle.limits.proofs.Numbers.{below-or-not, power}
 use Rattle.halving.proofs.Closest.{dist, closest-nearest}
 use Rattle.halving.proofs.Patterns.{Normal, small-or-normal, worth-small, worth-normal}
-
-power : (i j : ℕ) → i ≤ j → 2 ^ i ≤ 2 ^ j
-power i j h = pow-mono h
 
 -- x is a units
 abbrev pub Units : Float → ℕ → Type 0

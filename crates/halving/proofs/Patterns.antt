@@ -12,7 +12,7 @@ use lib.Ieee.Bits.{ofBits-toBits, toBits-lt}
 use lib.Ieee.Exact.{HasValue, odd-sign}
 use borrow.Author.Tests.{lt-leb, ne-eqb}
 use Rattle.halving.specs.Patterns.{worthOf, worth}
-use Rattle.halving.proofs.Least.{below-or-not}
+use Rattle.limits.proofs.Numbers.{below-or-not}
 
 -- ---- q of 24 digits, or 2 ^ 24, times 2 ^ t units has the pattern t * 2 ^ 23 + q
 field : (t q : ℕ) → 8388608 ≤ q → q < 16777216 → ((t * 8388608 + q) / 8388608 ≡ suc t) × ((t * 8388608 + q) % 8388608 ≡ q - 8388608)

@@ -17,7 +17,7 @@ use borrow.Author.Tests.{leb-true, leb-false, ltb-true, ltb-false, lt-ltb, le-lt
 use Rattle.limits.specs.Taken.{signBit, rootOperandTaken, f32Of, upTo}
 use Rattle.limits.proofs.Floats.{never, operand-pattern}
 use Rattle.halving.specs.Patterns.{worth, next}
-use Rattle.halving.proofs.Least.{below-or-not}
+use Rattle.limits.proofs.Numbers.{below-or-not}
 use Rattle.halving.proofs.Patterns.{worth-le, worth-normal, pattern-value}
 use Rattle.halving.proofs.Midway.{Units}
 use Rattle.halving.proofs.Range.{UpTo, taken-up-to}

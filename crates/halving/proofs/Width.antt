@@ -16,7 +16,7 @@ use Rattle.limits.specs.Taken.{signBit, rootOperandTaken}
 use Rattle.limits.proofs.Floats.{operand-pattern}
 use Rattle.halving.specs.Midpoint.{midpoint, halved}
 use Rattle.halving.specs.Patterns.{worth}
-use Rattle.halving.proofs.Least.{below-or-not}
+use Rattle.limits.proofs.Numbers.{below-or-not}
 use Rattle.halving.proofs.Closest.{dist}
 use Rattle.halving.proofs.Patterns.{worth-normal, worth-next, worth-le, pattern-value}
 use Rattle.halving.proofs.Halve.{halved-up, halved-down}

@@ -6,7 +6,7 @@ use placement::Answer;
 ghost use mathlib.Core.Path.{_≡_};
 ghost use Prim.Native.Nat.{ℕ};
 ghost use lib.ListN.{length};
-ghost use Rattle.limits.specs.Answers.{refused};
+ghost use Rattle.limits.specs.Answers.{Untouched};
 ghost use Rattle.placement_rules.specs.Placing.{placementSays, tightestBeside};
 ghost use Rattle.pair_rules.specs.Pair as pair;
 ghost use Rattle.pair_rules.specs.Pair.{pairSays, answers};
@@ -32,7 +32,8 @@ fn number_of(filling: Filling) -> u32
 // Fills the row of one level, by 720 lent directions, and gives 0. Where it is refused it gives the refusal's number, and
 // the row is as before.
 pub fn fill_row(level: usize, cos: &[f32], sin: &[f32], row: &mut [f32]) -> u32
-    ensures { λ r. ⌜ (r ≡ numberOf (fillSays level (now (cos .entry)) (now (sin .entry)) (now (row .entry)))) × (now (row .exit) ≡ rowAfter level (now (cos .entry)) (now (sin .entry)) (now (row .entry))) ⌝ }
+    ensures { λ r. ⌜ (r ≡ numberOf (fillSays level (now (cos .entry)) (now (sin .entry)) (now (row .entry))))
+        × (now (row .exit) ≡ rowAfter level (now (cos .entry)) (now (sin .entry)) (now (row .entry))) ⌝ }
 {
     number_of(gamut::fill_row(level, cos, sin, row))
 }
@@ -49,9 +50,12 @@ pub fn place(
     hues: &mut [u16; 16],
     tightest: &mut [usize; 1],
 ) -> u32
-    ensures { λ r. ⌜ (r ≡ placeNumber (placementSays k step c (now (m .entry)) (length (now (work .entry))))) × (now (hues .exit) ≡ huesAfter (placementSays k step c (now (m .entry)) (length (now (work .entry)))) (now (hues .entry))) ⌝ }
-    ensures { λ r. ⌜ now (tightest .exit) ≡ gapAfter (placementSays k step c (now (m .entry)) (length (now (work .entry)))) (tightestBeside (length (now (m .entry))) k (placementSays k step c (now (m .entry)) (length (now (work .entry))))) (now (tightest .entry)) ⌝ }
-    ensures { λ r. ⌜ ((w : ℕ) → placementSays k step c (now (m .entry)) (length (now (work .entry))) ≡ refused w → now (work .exit) ≡ now (work .entry)) ⌝ }
+    ensures { λ r. ⌜ (r ≡ placeNumber (placementSays k step c (now (m .entry)) (length (now (work .entry)))))
+        × (now (hues .exit) ≡ huesAfter (placementSays k step c (now (m .entry)) (length (now (work .entry)))) (now (hues .entry))) ⌝ }
+    ensures { λ r. ⌜ now (tightest .exit) ≡
+        gapAfter (placementSays k step c (now (m .entry)) (length (now (work .entry))))
+        (tightestBeside (length (now (m .entry))) k (placementSays k step c (now (m .entry)) (length (now (work .entry))))) (now (tightest .entry)) ⌝ }
+    ensures { λ r. ⌜ Untouched (placementSays k step c (now (m .entry)) (length (now (work .entry)))) (now (work .entry)) (now (work .exit)) ⌝ }
 {
     let found = placement::feasible(m, c, k, step, work);
     let answer = found.answer;
@@ -74,7 +78,9 @@ pub fn place(
 // What a best hands over: 0 with the chroma and its sixteen hues, 255 with zeros for hues and the chroma as before where there is none,
 // or the number of a refusal, with both as before.
 pub fn hand(chosen: Chosen, hues: &mut [u16; 16], chroma: &mut [f32; 1]) -> u32
-    ensures { λ r. ⌜ (r ≡ bestNumber (answers (chosen .answer) (chosen .hues))) × ((now (hues .exit) ≡ bestHues (answers (chosen .answer) (chosen .hues)) (now (hues .entry))) × (now (chroma .exit) ≡ bestChroma (answers (chosen .answer) (chosen .hues)) (now (chroma .entry)))) ⌝ }
+    ensures { λ r. ⌜ (r ≡ bestNumber (answers (chosen .answer) (chosen .hues)))
+        × ((now (hues .exit) ≡ bestHues (answers (chosen .answer) (chosen .hues)) (now (hues .entry)))
+        × (now (chroma .exit) ≡ bestChroma (answers (chosen .answer) (chosen .hues)) (now (chroma .entry)))) ⌝ }
 {
     let answer = chosen.answer;
     let given = chosen.hues;
@@ -118,9 +124,13 @@ pub fn best(
     tightest: &mut [usize; 1],
     chroma: &mut [f32; 1],
 ) -> u32
-    ensures { λ r. ⌜ (r ≡ bestNumber (pairSays k step floor (now (a .entry)) (now (b .entry)) (length (now (work .entry))))) × ((now (hues .exit) ≡ bestHues (pairSays k step floor (now (a .entry)) (now (b .entry)) (length (now (work .entry)))) (now (hues .entry))) × (now (chroma .exit) ≡ bestChroma (pairSays k step floor (now (a .entry)) (now (b .entry)) (length (now (work .entry)))) (now (chroma .entry)))) ⌝ }
-    ensures { λ r. ⌜ now (tightest .exit) ≡ gapAfter (pairSays k step floor (now (a .entry)) (now (b .entry)) (length (now (work .entry)))) (pair.tightestBeside (length (now (a .entry))) k (pairSays k step floor (now (a .entry)) (now (b .entry)) (length (now (work .entry))))) (now (tightest .entry)) ⌝ }
-    ensures { λ r. ⌜ ((w : ℕ) → pairSays k step floor (now (a .entry)) (now (b .entry)) (length (now (work .entry))) ≡ refused w → now (work .exit) ≡ now (work .entry)) ⌝ }
+    ensures { λ r. ⌜ (r ≡ bestNumber (pairSays k step floor (now (a .entry)) (now (b .entry)) (length (now (work .entry)))))
+        × ((now (hues .exit) ≡ bestHues (pairSays k step floor (now (a .entry)) (now (b .entry)) (length (now (work .entry)))) (now (hues .entry)))
+        × (now (chroma .exit) ≡ bestChroma (pairSays k step floor (now (a .entry)) (now (b .entry)) (length (now (work .entry)))) (now (chroma .entry)))) ⌝ }
+    ensures { λ r. ⌜ now (tightest .exit) ≡
+        gapAfter (pairSays k step floor (now (a .entry)) (now (b .entry)) (length (now (work .entry))))
+        (pair.tightestBeside (length (now (a .entry))) k (pairSays k step floor (now (a .entry)) (now (b .entry)) (length (now (work .entry))))) (now (tightest .entry)) ⌝ }
+    ensures { λ r. ⌜ Untouched (pairSays k step floor (now (a .entry)) (now (b .entry)) (length (now (work .entry)))) (now (work .entry)) (now (work .exit)) ⌝ }
 {
     let chosen = pair::best_for_levels(a, b, k, step, floor, work);
     hand_gap(chosen, tightest);

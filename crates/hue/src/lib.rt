@@ -97,7 +97,8 @@ fn hues_of(n: usize, colors: [Srgb8; 32], cos: &[f32], sin: &[f32]) -> [f32; 32]
 
 // The hues in degrees of the first n of 32 colours, by 720 lent directions: every colour has one.
 pub fn srgb8_hues(n: usize, colors: [Srgb8; 32], cos: &[f32], sin: &[f32]) -> Hues
-    ensures { λ r. ⌜ (huesSaid (r .answer) (r .degrees) ≡ huesSays (now (cos .entry)) (now (sin .entry)) n colors) × (r .degrees ≡ degreesBeside (huesSays (now (cos .entry)) (now (sin .entry)) n colors)) ⌝ }
+    ensures { λ r. ⌜ (huesSaid (r .answer) (r .degrees) ≡ huesSays (now (cos .entry)) (now (sin .entry)) n colors)
+        × (r .degrees ≡ degreesBeside (huesSays (now (cos .entry)) (now (sin .entry)) n colors)) ⌝ }
 {
     if limits::takes_directions(cos, sin) {
         if n <= 32 {

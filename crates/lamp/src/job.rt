@@ -82,15 +82,7 @@ fn take_steps(table: &[f32], begun: Job) -> Searched {
 
 // Searches a table.
 pub fn search_in(table: &[f32], settings: Settings) -> Searched {
-    let blank = Job {
-        settings,
-        levels: 0,
-        position: 0,
-        best: Best::None,
-        hues: [0u16; 16],
-        tightest: 0,
-    };
-    let begun = numbered(search::start(settings, table, blank));
+    let begun = numbered(search::start(settings, table, search::begin(settings, 0)));
     if begun.number != 0 {
         return begun;
     }

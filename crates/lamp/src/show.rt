@@ -1,7 +1,7 @@
 // The lines that say what is asked, what the search found and its limit, and what other lines are made of.
 use crate::numbers;
 use crate::words;
-use audit::Ceiling;
+use audit::Bound;
 use palette::Design;
 use placement_checks::Stepping;
 use search::Settings;
@@ -104,7 +104,7 @@ fn gap_line(positions: usize) {
 fn spacing(step: Stepping) {
     match step {
         Stepping::Is(halves) => numbers::halves(halves as u64),
-        Stepping::Declined(why) => refused(why.number()),
+        Stepping::Refused(why) => refused(why.number()),
     }
 }
 
@@ -137,10 +137,10 @@ fn limit_line(settings: Settings, most: f32) {
 
 // Writes the limit beside a chroma that was found.
 pub fn limit(settings: Settings, chroma: f32) {
-    let ceiling = audit::bound(chroma);
-    match ceiling {
-        Ceiling::Next(most) => limit_line(settings, most),
-        Ceiling::Refused(why) => refused(why.number()),
+    let bound = audit::bound_of(chroma);
+    match bound {
+        Bound::Next(most) => limit_line(settings, most),
+        Bound::Refused(why) => refused(why.number()),
     }
 }
 

@@ -14,12 +14,13 @@ use Rattle.limits.specs.declared.Checked.{Checked}
 use Rattle.limits.specs.declared.Checked.the-variants.{Fine, Wrong}
 use Rattle.limits.proofs.Checks.{differ, passed, fine, wrong}
 use Rattle.placement_rules.specs.declared.Stepping.{Stepping}
-use Rattle.placement_rules.specs.declared.Stepping.the-variants.{Is, Declined}
+use Rattle.placement_rules.specs.declared.Stepping.the-variants.{Is, Refused}
 use Rattle.placement_rules.specs.Placing.{stepFor, stepSaid, stepSays}
+use Rattle.pair_rules.specs.declared.Chosen.{Chosen}
 use Rattle.pair_rules.specs.Rows.{leastRow, largest}
-use Rattle.pair_rules.specs.Pair.{Best, none, bestOver, lengthsTaken, alike, entriesTaken, rowsSay, tightestBeside}
+use Rattle.pair_rules.specs.Pair.{Best, none, bestOver, lengthsTaken, alike, entriesTaken, rowsSay, Gives}
 use Rattle.pair_rules.proofs.Rows.{least-long, least-of-one, least-taken}
-use Rattle.pair_rules.proofs.Gaps.{gap-same}
+use Rattle.pair_rules.proofs.Gaps.{gives-same}
 use Rattle.level_set_rules.specs.Set.{rowsAt, setOver, namedChecked, setChecked, setSays}
 use Rattle.level_set_rules.proofs.Accepted.{named-checks, in-words}
 use Rattle.level_set_rules.proofs.Named.{rows-say, ring, lengths, entries}
@@ -32,7 +33,7 @@ module _ (k : ℕ) (t : List Float) (levels : List ℕ) (room : ℕ) (stepping :
   over = setOver k (leastRow (rowsAt t levels))
 
   -- there is none: the hue count is refused
-  pub declined : (w : Refusal) → stepping ≡ Declined w → setSays k t levels room ≡ refused (number w)
+  pub declined : (w : Refusal) → stepping ≡ Refused w → setSays k t levels room ≡ refused (number w)
   unfolding setSays setChecked stepSays
   declined w f = go (hueCountTaken k) refl (sym (ap stepSaid f) ∙ says)
     where
@@ -77,9 +78,9 @@ module _ (k step : ℕ) (t : List Float) (levels : List ℕ) (room : ℕ) (asked
   long : length least ≡ 720
   long = least-long rows ∙ ring k t levels room (asked .taken)
 
-  -- a smallest gap that goes by the row's length goes by the circle's
-  pub gap-round : (gap : ℕ) {x y : Said Best} → x ≡ y → gap ≡ tightestBeside (length row) k x → gap ≡ tightestBeside 720 k y
-  gap-round gap e g = gap-same k gap (ap length is ∙ long) e g
+  -- what is handed back over the row is handed back over the circle
+  pub given-round : {r : Chosen} {x y : Said Best} → x ≡ y → Gives (length row) k r x → Gives 720 k r y
+  given-round e g = gives-same (ap length is ∙ long) e g
 
   one-length : lengthsTaken (least ∷ []) ≡ true
   unfolding lengthsTaken alike

@@ -9,11 +9,11 @@ use placement_checks::Stepping;
 ghost use mathlib.Core.Path.{_≡_};
 ghost use Prim.Native.Nat.{ℕ};
 ghost use lib.ListN.{length};
-ghost use Rattle.limits.specs.Answers.{value, refused};
+ghost use Rattle.limits.specs.Answers.{value, refused, Untouched};
 ghost use Rattle.limits.specs.Refusals.{number, checkSaid};
 ghost use Rattle.pair_rules.specs.Rows.{leastRow};
-ghost use Rattle.pair_rules.specs.Pair.{entriesTaken};
-ghost use Rattle.level_set_rules.specs.Set.{rowsAt, setOver, indicesTaken, namedChecked, setSays, Gives};
+ghost use Rattle.pair_rules.specs.Pair.{entriesTaken, Gives};
+ghost use Rattle.level_set_rules.specs.Set.{rowsAt, setOver, indicesTaken, namedChecked, setSays};
 ghost use Rattle.level_set.specs.Inner.{Named, Long, Endless, Lowered, Taken};
 
 // Whether each index is below n.
@@ -98,7 +98,7 @@ fn lower_all(table: &[f32], levels: &[usize], row: &mut [f32])
 // The best over levels that are taken.
 fn best(table: &[f32], levels: &[usize], k: usize, step: usize, work: &mut [u16]) -> Chosen
     requires { ⌜ Taken k step (now table) (now levels) (length (now work)) ⌝ }
-    ensures { λ r. ⌜ Gives k r (value (setOver k (leastRow (rowsAt (now (table .entry)) (now (levels .entry)))))) ⌝ }
+    ensures { λ r. ⌜ Gives 720 k r (value (setOver k (leastRow (rowsAt (now (table .entry)) (now (levels .entry)))))) ⌝ }
 {
     let mut row = [f32::from_bits(0x7f80_0000); 720];
     lower_all(table, levels, &mut row);
@@ -115,7 +115,7 @@ fn best(table: &[f32], levels: &[usize], k: usize, step: usize, work: &mut [u16]
 
 // A refusal.
 fn refuse(why: Refusal) -> Chosen
-    ensures { λ r. ⌜ ((k : ℕ) → Gives k r (refused (number why))) ⌝ }
+    ensures { λ r. ⌜ ((k : ℕ) → Gives 720 k r (refused (number why))) ⌝ }
 {
     Chosen {
         answer: Answer::Refused(why),
@@ -128,12 +128,12 @@ fn refuse(why: Refusal) -> Chosen
 // 2^-15, by 30 halvings from 0; nothing where no hue has a value above 0. With the hues comes their smallest gap round the circle. Indices may repeat. The work buffer's content is left free where
 // the call is accepted, and does not matter.
 pub fn best_for_level_set(table: &[f32], levels: &[usize], k: usize, work: &mut [u16]) -> Chosen
-    ensures { λ r. ⌜ Gives k r (setSays k (now (table .entry)) (now (levels .entry)) (length (now (work .entry)))) ⌝ }
-    ensures { λ r. ⌜ ((w : ℕ) → setSays k (now (table .entry)) (now (levels .entry)) (length (now (work .entry))) ≡ refused w → now (work .exit) ≡ now (work .entry)) ⌝ }
+    ensures { λ r. ⌜ Gives 720 k r (setSays k (now (table .entry)) (now (levels .entry)) (length (now (work .entry)))) ⌝ }
+    ensures { λ r. ⌜ Untouched (setSays k (now (table .entry)) (now (levels .entry)) (length (now (work .entry)))) (now (work .entry)) (now (work .exit)) ⌝ }
 {
     let stepping = placement_checks::step_for(k);
     match stepping {
-        Stepping::Declined(why) => refuse(why),
+        Stepping::Refused(why) => refuse(why),
         Stepping::Is(step) => {
             let checked = check(table, levels, work.len());
             match checked {

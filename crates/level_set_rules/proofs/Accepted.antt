@@ -11,7 +11,7 @@ use borrow.Author.Tests.{leb-true, le-leb, ltb-true, lt-ltb}
 use Rattle.limits.specs.Answers.{Said, value}
 use Rattle.limits.specs.Taken.{hueCountTaken, entryTaken, every}
 use Rattle.limits.specs.Each.{Each}
-use Rattle.limits.proofs.Checks.{Check, check, AllPass, all-pass, said}
+use Rattle.limits.proofs.Checks.{Check, check, AllPass, all-pass, said, same-value}
 use Rattle.limits.proofs.HueCount.{both, hue-count, count-taken}
 use Rattle.limits.proofs.Lists.{each-true, every-true}
 use Rattle.gamut.specs.Table.{levelsIn, tableTaken}
@@ -23,7 +23,7 @@ use Rattle.pair_rules.specs.Pair.{Best, entriesTaken}
 use Rattle.level_set_rules.specs.Set.{rowsAt, setOver, listTaken, indicesTaken, namedChecked, setChecked, setSays}
 use Rattle.level_set_rules.specs.Meant.{Listed, SetTaken}
 
--- ---- tests of each element, in so many words
+-- ---- tests of each element, written out
 listed : (levels : List ℕ) → listTaken levels ≡ true → Listed levels
 unfolding listTaken
 listed levels h = let t = both (leb 1 (length levels)) (leb (length levels) 8) h in (leb-true 1 (length levels) (t .0), leb-true (length levels) 8 (t .1))
@@ -84,10 +84,7 @@ module _ (k : ℕ) (t : List Float) (levels : List ℕ) (room : ℕ) where
   unfolding setSays setChecked namedChecked
   set-only b h =
       let f = all-pass set-checks (value over) b h in
-      (in-words (f .0 .0) (f .0 .1), same over (f .1))
-    where
-      same : (x : Best) → _≡_ {A = Said Best} (value x) (value b) → x ≡ b
-      same x h = cc
+      (in-words (f .0 .0) (f .0 .1), same-value over b (f .1))
 
   pub set-given : SetTaken k t levels room → setSays k t levels room ≡ value over
   unfolding setSays setChecked namedChecked

@@ -37,7 +37,7 @@ pub record SameLevels (levels others : List ℕ) : Type 0 where
 abbrev pub Listed : List ℕ → Type 0
 Listed levels = (1 ≤ length levels) × (length levels ≤ 8)
 
--- when the call is accepted, in so many words: numbers 1, 6, 8, 18, 11 and 7
+-- when the call is accepted, written out: numbers 1, 6, 8, 18, 11 and 7
 pub record SetTaken (k : ℕ) (t : List Float) (levels : List ℕ) (room : ℕ) : Type 0 where
   pub hue-count : (1 ≤ k) × (k ≤ 16)
   pub whole-levels : length t ≡ levelsIn t * 720

@@ -1,7 +1,6 @@
 -- Document 02, Req 03: "One hue must do at all its levels. Port `best_for_level_set` for 1 to 8 level indices, with the job's step for k; repeats are allowed and change
 -- nothing. The floor is 0, as in the Rust, and none is said exactly when no hue has a value above 0." What the call says for every hue count, table, list of levels and
 -- length of the work buffer. What that means stands in specs/Meant. Definitions only.
-use mathlib.Core.Path.{_≡_}
 use mathlib.Core.Bool.{Bool, true, _&&_, cond}
 use mathlib.Core.List.{List, [], _∷_, map}
 use Prim.Native.Nat.{ℕ}
@@ -12,9 +11,8 @@ use Rattle.limits.specs.Answers.{Said, value, refused}
 use Rattle.limits.specs.Taken.{f32Of, hueCountTaken}
 use Rattle.gamut.specs.Table.{levelsIn, rowAt, tableTaken}
 use Rattle.placement_rules.specs.Placing.{stepFor, workNeeded}
-use Rattle.pair_rules.specs.declared.Chosen.{Chosen}
 use Rattle.pair_rules.specs.Rows.{leastRow, largest}
-use Rattle.pair_rules.specs.Pair.{Best, none, bestOver, entriesTaken, huesBeside, tightestBeside, answers}
+use Rattle.pair_rules.specs.Pair.{Best, none, bestOver, entriesTaken}
 
 -- the rows of the levels that are named, in the order in which they are named
 abbrev pub rowsAt : List Float → List ℕ → List (List Float)
@@ -49,9 +47,3 @@ setChecked k t levels room good = cond (hueCountTaken k) (namedChecked t levels 
 -- what the call says
 unfoldable pub setSays : ℕ → List Float → List ℕ → ℕ → Said Best
 setSays k t levels room = setChecked k t levels room (value (setOver k (leastRow (rowsAt t levels))))
-
--- an answer with its sixteen hues, of which k are placed, and their smallest gap hands back what is said
-pub record Gives (k : ℕ) (r : Chosen) (said : Said Best) : Type 0 where
-  pub says : answers (r .answer) (r .hues) ≡ said
-  pub beside : r .hues ≡ huesBeside said
-  pub tightest-is : r .tightest ≡ tightestBeside 720 k said

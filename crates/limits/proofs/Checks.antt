@@ -69,3 +69,7 @@ module _ (cs : List Check) (r : Checked) (says : checkSaid r ≡ through cs pass
 -- nothing is both said and refused
 pub said-twice : {A B : Type 0} {x : Said A} {a : A} {n : ℕ} → x ≡ value a → x ≡ refused n → B
 said-twice {a = a} {n = n} g h = differ n a (sym h ∙ g)
+
+-- what is said is one value
+pub same-value : {A : Type 0} (x y : A) → _≡_ {A = Said A} (value x) (value y) → x ≡ y
+same-value x y h = cc

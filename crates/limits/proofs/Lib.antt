@@ -1,3 +1,5 @@
+pub mod Numbers
+pub mod Firsts
 pub mod Directions
 pub mod Every
 pub mod Floats

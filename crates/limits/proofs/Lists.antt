@@ -5,7 +5,7 @@ use mathlib.Core.Bool.{Bool, true, _&&_}
 use mathlib.Core.List.{List, [], _∷_, _++_}
 use Prim.Native.Nat.{ℕ, zero, suc}
 use lib.Ieee.{Float}
-use lib.ListN.{take, drop, replicate}
+use lib.ListN.{getD, take, drop, replicate}
 use Rattle.limits.specs.Taken.{every}
 use Rattle.limits.specs.Each.{Each}
 use Rattle.limits.proofs.HueCount.{both}
@@ -29,6 +29,11 @@ module _ {A : Type 0} (P : A → Type 0) where
   pub each-same : (n : ℕ) (x : A) → P x → Each P (replicate n x)
   each-same zero x h = tt
   each-same (suc n) x h = (h, each-same n x h)
+
+  -- what holds at each index, as of a slice that is lent
+  pub each-at : (d : A) (xs : List A) → ((i : ℕ) → P (getD xs i d)) → Each P xs
+  each-at d [] h = tt
+  each-at d (x ∷ xs) h = (h 0, each-at d xs (λ (i : ℕ). h (suc i)))
 
 -- ---- by a test
 module _ (p : Float → Bool) where

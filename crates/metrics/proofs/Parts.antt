@@ -8,7 +8,7 @@ use native.Mathlib.Omega.{arith}
 use lib.Ieee.{Float, inf, binary32, ofBits}
 use lib.ListN.{length, take, drop, length-drop, drop-of-length-le}
 use lib.Seq.{take-all}
-use Rattle.halving.proofs.Least.{below-or-not}
+use Rattle.limits.proofs.Numbers.{below-or-not}
 
 module _ (k mid end : ℕ) (xs : List Float) (long : length xs ≡ 32) (middle : mid ≡ min k 32) (last : end ≡ min (mid + mid) 32) where
   pub dark-part : take (mid - 0) (drop 0 xs) ≡ take k xs

@@ -5,7 +5,6 @@ use limits::Checked;
 use limits::Refusal;
 pub use orientation_rules::Answer;
 pub use orientation_rules::Oriented;
-use search_rules::Settings;
 ghost use mathlib.Core.Path.{_≡_};
 ghost use mathlib.Core.List.{[], _∷_};
 ghost use lib.ListN.{replicate};
@@ -23,16 +22,16 @@ fn check(gap: f32, table: &[f32], hue: usize) -> Checked
     if !limits::takes_gap(gap) {
         return Checked::Wrong(Refusal::Gap);
     }
-    if !gamut::takes_table(table) {
-        return Checked::Wrong(Refusal::TableLength);
+    let checked = gamut::check_table(table);
+    match checked {
+        Checked::Wrong(why) => Checked::Wrong(why),
+        Checked::Fine => {
+            if Gamut::HUES <= hue {
+                return Checked::Wrong(Refusal::HueIndex);
+            }
+            Checked::Fine
+        }
     }
-    if !limits::takes_entries(table) {
-        return Checked::Wrong(Refusal::Entry);
-    }
-    if Gamut::HUES <= hue {
-        return Checked::Wrong(Refusal::HueIndex);
-    }
-    Checked::Fine
 }
 
 // The best so far.
@@ -99,12 +98,11 @@ fn over_light(gap: f32, table: &[f32], hue: usize, dark: usize, kept: Kept) -> K
     requires { ⌜ Lit gap (now table) hue dark (bestOf kept) ⌝ }
     ensures { λ r. ⌜ Passed gap (now (table .entry)) hue dark (bestOf kept) (bestOf r) ⌝ }
 {
-    let settings = Settings { k: 2, gap };
     let levels = table.len() / Gamut::HUES;
     let mut best = kept;
     let mut light: usize = 0;
     while light < levels {
-        if search_checks::qualifies(settings, dark as u16, light as u16) {
+        if search_checks::far_enough(gap, dark as u16, light as u16) {
             best = over_partners(table, hue, dark, light, best);
         }
         light += 1;

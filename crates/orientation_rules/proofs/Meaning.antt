@@ -12,17 +12,18 @@ use Rattle.limits.specs.Answers.{value}
 use Rattle.limits.specs.Taken.{f32Of}
 use Rattle.limits.specs.Each.{Each, F32}
 use Rattle.limits.proofs.Floats.{never}
-use Rattle.halving.proofs.Least.{below-or-not}
+use Rattle.limits.proofs.Numbers.{below-or-not}
 use Rattle.halving.proofs.Plain.{Plain, le-not-lt}
 use Rattle.gamut.specs.Table.{levelsIn}
 use Rattle.search_rules.specs.Runs.{commonOf}
 use Rattle.search_rules.specs.Loops.{loop}
 use Rattle.search_rules.specs.Accepted.{Between}
-use Rattle.search_rules.proofs.Apart.{far-apart, qualified}
+use Rattle.search_rules.specs.Job.{farEnough}
+use Rattle.search_rules.proofs.Apart.{apart-enough, enough}
 use Rattle.search_rules.proofs.Positions.{place-of, at, rows}
 use Rattle.search_rules.proofs.Rows.{Good, choice-plain}
 use Rattle.search_rules.proofs.Floor.{thirty-five}
-use Rattle.orientation_rules.specs.Orientation.{Best, none, found, asked, paired, nearest, partners, partnerAt, replaces, triedWith, overPartners, tried, overLight, bestFixed, orientationSays}
+use Rattle.orientation_rules.specs.Orientation.{Best, none, found, nearest, partners, partnerAt, replaces, triedWith, overPartners, tried, overLight, bestFixed, orientationSays}
 use Rattle.orientation_rules.specs.Fixed.{positionsOn, Fixed, chromaOf, turn, Greatest, NoneReaches, OrientationTaken}
 use Rattle.orientation_rules.proofs.Partners.{partner-below, on-back, partner-back, to-spaced}
 use Rattle.orientation_rules.proofs.Accepted.{orientation-only, orientation-given, good-table}
@@ -47,7 +48,7 @@ module _ (gap : Float) (t : List Float) (hue : ℕ) where
   v q = commonOf t (dark q) (light q) (hue ∷ partner q ∷ [])
 
   abbrev counts : ℕ → Bool
-  counts q = paired gap (dark q) (light q)
+  counts q = farEnough gap (dark q) (light q)
 
   abbrev made : ℕ → Best
   made q = found (v q) (dark q) (light q) (partner q)
@@ -57,11 +58,11 @@ module _ (gap : Float) (t : List Float) (hue : ℕ) where
 
   -- one partner of the pair at a position
   abbrev at-pair : ℕ → ℕ → Best → Best
-  at-pair p i so = cond (paired gap (p / m) (p % m)) (triedWith t hue (p / m) (p % m) (partnerAt hue (nearest + i)) so) so
+  at-pair p i so = cond (farEnough gap (p / m) (p % m)) (triedWith t hue (p / m) (p % m) (partnerAt hue (nearest + i)) so) so
 
   pair-is : (p : ℕ) (so : Best) → tried gap t hue (p / m) (p % m) so ≡ loop (at-pair p) partners 0 so
   unfolding tried overPartners
-  pair-is p so = gated (λ on. triedWith t hue (p / m) (p % m) (partnerAt hue on)) (paired gap (p / m) (p % m)) nearest partners 0 so
+  pair-is p so = gated (λ on. triedWith t hue (p / m) (p % m) (partnerAt hue on)) (farEnough gap (p / m) (p % m)) nearest partners 0 so
 
   -- the three loops are one over the candidates
   one-loop : bestFixed gap t hue ≡ loop (turned replaces none made v counts (f32Of 35)) all 0 none
@@ -106,7 +107,7 @@ module _ (gap : Float) (t : List Float) (hue : ℕ) where
         partner = partner q;
         dark-in = in-levels .0;
         light-in = in-levels .1;
-        far = let few = taken .levels .1 in let d = in-levels .0 in let l = in-levels .1 in far-apart (asked gap) (taken .gap-taken) (dark q) (light q) (omega arith) (omega arith) c;
+        far = let few = taken .levels .1 in let d = in-levels .0 in let l = in-levels .1 in apart-enough gap (taken .gap-taken) (dark q) (light q) (omega arith) (omega arith) c;
         partner-in = partner-below hue (nearest + q % partners);
         on = on-between;
       }
@@ -144,7 +145,7 @@ module _ (gap : Float) (t : List Float) (hue : ℕ) where
           let few = taken .levels .1 in
           let d = x .dark-in in
           let l = x .light-in in
-          rw (p .0, p .1 .0) (qualified (asked gap) (taken .gap-taken) (x .dark) (x .light) (omega arith) (omega arith) (x .far))
+          rw (p .0, p .1 .0) (enough gap (taken .gap-taken) (x .dark) (x .light) (omega arith) (omega arith) (x .far))
 
       fixed-plain : Plain (chromaOf t gap hue x)
       fixed-plain = plain-at (x .dark) (x .light) (x .partner) (x .dark-in) (x .light-in) (x .partner-in) (x .on)

@@ -10,10 +10,9 @@ use lib.Ieee.{Float, lt, le}
 use lib.ListN.{getD, replicate}
 use Rattle.limits.specs.Answers.{Said, value, refused}
 use Rattle.limits.specs.Refusals.{number}
-use Rattle.limits.specs.Taken.{f32Of, gapTaken, entryTaken, every}
-use Rattle.gamut.specs.Table.{levelsIn, tableTaken}
-use Rattle.search_rules.specs.declared.Settings.{Settings}
-use Rattle.search_rules.specs.Job.{qualifies}
+use Rattle.limits.specs.Taken.{f32Of, gapTaken}
+use Rattle.gamut.specs.Table.{levelsIn, tableChecked}
+use Rattle.search_rules.specs.Job.{farEnough}
 use Rattle.search_rules.specs.Runs.{commonOf}
 use Rattle.search_rules.specs.Loops.{loop}
 use Rattle.orientation_rules.specs.declared.Answer.{Answer}
@@ -24,13 +23,6 @@ use Rattle.orientation_rules.specs.declared.Oriented.{Oriented}
 pub data Best : Type 0 where
   none : Best
   found : Float → ℕ → ℕ → ℕ → Best
-
--- a pair qualifies by the job's own test, which reads the gap of the settings alone; that "k is 2" shows in the two hues of `triedWith`
-abbrev pub asked : Float → Settings
-asked gap = record { k = 2; gap = gap }
-
-abbrev pub paired : Float → ℕ → ℕ → Bool
-paired gap d l = qualifies (asked gap) d l
 
 -- "the partner lies 301 to 419 positions on": how far on the nearest lies, and how many there are
 abbrev pub nearest : ℕ
@@ -56,9 +48,9 @@ triedWith t hue d l partner so = cond (replaces (commonOf t d l (hue ∷ partner
 unfoldable pub overPartners : List Float → ℕ → ℕ → ℕ → Best → Best
 overPartners t hue d l so = loop (λ on. triedWith t hue d l (partnerAt hue on)) partners nearest so
 
--- the levels d and l: left out where they do not qualify
+-- the levels d and l: left out where they are not far enough apart, by the test of a job. That "k is 2" shows in the two hues of `triedWith`.
 unfoldable pub tried : Float → List Float → ℕ → ℕ → ℕ → Best → Best
-tried gap t hue d l so = cond (paired gap d l) (overPartners t hue d l so) so
+tried gap t hue d l so = cond (farEnough gap d l) (overPartners t hue d l so) so
 
 -- the dark level d with every light level, from index 0 up
 unfoldable pub overLight : Float → List Float → ℕ → ℕ → Best → Best
@@ -72,10 +64,7 @@ bestFixed gap t hue = loop (λ d. overLight gap t hue d) (levelsIn t) 0 none
 -- whatever a start takes.
 unfoldable pub orientationChecked : {A : Type 0} → Float → List Float → ℕ → Said A → Said A
 orientationChecked gap t hue good =
-    cond (gapTaken gap)
-    (cond (tableTaken t)
-    (cond (every entryTaken t)
-    (cond (leb hue 719) good (refused 12)) (refused 7)) (refused 6)) (refused 2)
+    cond (gapTaken gap) (tableChecked t (cond (leb hue 719) good (refused 12))) (refused 2)
 
 unfoldable pub orientationSays : Float → List Float → ℕ → Said Best
 orientationSays gap t hue = orientationChecked gap t hue (value (bestFixed gap t hue))

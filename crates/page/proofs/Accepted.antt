@@ -1,4 +1,4 @@
--- A page is laid out exactly for a record that is not broken, each of its ranges in so many words, and a buffer with room for the page (`page-exactly`). Assumes nothing.
+-- A page is laid out exactly for a record that is not broken, each of its ranges written out, and a buffer with room for the page (`page-exactly`). Assumes nothing.
 use mathlib.Core.Path.{_≡_}
 use mathlib.Core.Logic.{_↔_}
 use mathlib.Core.List.{List, [], _∷_}

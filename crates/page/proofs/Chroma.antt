@@ -13,7 +13,7 @@ use lib.Ieee.Fits.{down-pos}
 use Rattle.limits.specs.Each.{F32}
 use Rattle.limits.specs.Taken.{f32Of, chromaTaken}
 use Rattle.halving.specs.Patterns.{worth}
-use Rattle.halving.proofs.Least.{below-or-not}
+use Rattle.limits.proofs.Numbers.{below-or-not}
 use Rattle.halving.proofs.Patterns.{worth-normal}
 use Rattle.halving.proofs.Midway.{revalue}
 use Rattle.halving.proofs.Plain.{Plain, plain-units, taken-plain}

@@ -5,15 +5,14 @@ use mathlib.Core.List.{List}
 use Prim.Native.Nat.{ℕ, suc}
 use lib.Ieee.{Float, lt}
 use lib.ListN.{length, take}
-use Rattle.limits.specs.Answers.{value, pass}
+use Rattle.limits.specs.Answers.{pass}
 use Rattle.halving.specs.Midpoint.{halve}
 use Rattle.halving.proofs.Meeting.{Met}
 use Rattle.placement_rules.specs.Ring.{placed}
 use Rattle.placement_rules.specs.Gaps.{tightest}
 use Rattle.placement_rules.specs.Placing.{sixteen, checked}
-use Rattle.pair_rules.specs.declared.Chosen.{Chosen}
 use Rattle.pair_rules.specs.Rows.{largest}
-use Rattle.pair_rules.specs.Pair.{Best, placedAt, placeable, rowsChecked, huesBeside, tightestBeside, answers}
+use Rattle.pair_rules.specs.Pair.{placedAt, placeable, rowsChecked}
 use Rattle.pair.specs.declared.Bracket.{Bracket}
 
 -- rows and arguments that are taken
@@ -51,9 +50,3 @@ pub record Turned (k step : ℕ) (row : List Float) (at next : Bracket) : Type 0
   pub high : Met (next .hi)
   pub onward : next .still ≡ false → (n : ℕ) → halve (placeable k step row) (suc n) (at .lo) (at .hi) ≡ halve (placeable k step row) n (next .lo) (next .hi)
   pub ended : next .still ≡ true → (n : ℕ) → halve (placeable k step row) n (at .lo) (at .hi) ≡ next .lo
-
--- an answer with its hues and their smallest gap gives this best, of k hues on a ring of n
-pub record Gives (n k : ℕ) (r : Chosen) (best : Best) : Type 0 where
-  pub says : answers (r .answer) (r .hues) ≡ value best
-  pub beside : r .hues ≡ huesBeside (value best)
-  pub tightest-is : r .tightest ≡ tightestBeside n k (value best)

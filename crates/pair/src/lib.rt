@@ -7,16 +7,16 @@ ghost use mathlib.Core.Path.{_≡_};
 ghost use mathlib.Core.List.{[], _∷_};
 ghost use Prim.Native.Nat.{ℕ};
 ghost use lib.ListN.{length, take};
-ghost use Rattle.limits.specs.Answers.{value, refused};
+ghost use Rattle.limits.specs.Answers.{value, Untouched};
 ghost use Rattle.limits.specs.Refusals.{checkSaid};
 ghost use Rattle.placement_rules.specs.Gaps.{tightest};
 ghost use Rattle.pair_rules.specs.Rows.{leastRow, largest};
-ghost use Rattle.pair_rules.specs.Pair.{none, found, bestOver, rowsChecked, rowsSay, pairSays, huesBeside, tightestBeside, answers};
-ghost use Rattle.pair.specs.Inner.{Taken, Lent, Ready, There, Stands, Turned, Gives};
+ghost use Rattle.pair_rules.specs.Pair.{none, found, bestOver, rowsChecked, rowsSay, pairSays, Gives};
+ghost use Rattle.pair.specs.Inner.{Taken, Lent, Ready, There, Stands, Turned};
 
 // Nothing is found.
 fn nothing() -> Chosen
-    ensures { λ r. ⌜ ((n k : ℕ) → Gives n k r none) ⌝ }
+    ensures { λ r. ⌜ ((n k : ℕ) → Gives n k r (value none)) ⌝ }
 {
     Chosen {
         answer: Answer::Nothing,
@@ -62,7 +62,7 @@ fn lesser_row(a: &[f32], b: &[f32], row: &mut [f32]) -> f32
 
 // A chroma with its hues, of which the smallest gap is `apart`.
 fn found(chroma: f32, hues: [u16; 16], apart: usize) -> Chosen
-    ensures { λ r. ⌜ ((n k : ℕ) → apart ≡ tightest n (take k hues) → Gives n k r (found chroma hues)) ⌝ }
+    ensures { λ r. ⌜ ((n k : ℕ) → apart ≡ tightest n (take k hues) → Gives n k r (value (found chroma hues))) ⌝ }
 {
     Chosen {
         answer: Answer::Found(chroma),
@@ -136,7 +136,7 @@ fn rounds(
     work: &mut [u16],
 ) -> Chosen
     requires { ⌜ Ready k step floor most (now row) (length (now work)) × There k step (now row) floor hues apart ⌝ }
-    ensures { λ r. ⌜ Gives (length (now (row .entry))) k r (bestOver k step floor (now (row .entry))) ⌝ }
+    ensures { λ r. ⌜ Gives (length (now (row .entry))) k r (value (bestOver k step floor (now (row .entry)))) ⌝ }
 {
     let mut at = Bracket {
         lo: floor,
@@ -157,7 +157,7 @@ fn rounds(
 // The best over a row of values whose largest is `most`, from a floor.
 fn climb(row: &[f32], k: usize, step: usize, floor: f32, most: f32, work: &mut [u16]) -> Chosen
     requires { ⌜ Ready k step floor most (now row) (length (now work)) ⌝ }
-    ensures { λ r. ⌜ Gives (length (now (row .entry))) k r (bestOver k step floor (now (row .entry))) ⌝ }
+    ensures { λ r. ⌜ Gives (length (now (row .entry))) k r (value (bestOver k step floor (now (row .entry)))) ⌝ }
 {
     let first = placement::feasible(row, floor, k, step, work);
     let answer = first.answer;
@@ -171,7 +171,7 @@ fn climb(row: &[f32], k: usize, step: usize, floor: f32, most: f32, work: &mut [
 // The same, where the largest may be below the floor.
 fn from_floor(row: &[f32], k: usize, step: usize, floor: f32, most: f32, work: &mut [u16]) -> Chosen
     requires { ⌜ Lent k step floor most (now row) (length (now work)) ⌝ }
-    ensures { λ r. ⌜ Gives (length (now (row .entry))) k r (bestOver k step floor (now (row .entry))) ⌝ }
+    ensures { λ r. ⌜ Gives (length (now (row .entry))) k r (value (bestOver k step floor (now (row .entry)))) ⌝ }
 {
     if most < floor {
         return nothing();
@@ -182,7 +182,7 @@ fn from_floor(row: &[f32], k: usize, step: usize, floor: f32, most: f32, work: &
 // The best of two rows that are taken.
 fn best(a: &[f32], b: &[f32], k: usize, step: usize, floor: f32, work: &mut [u16]) -> Chosen
     requires { ⌜ Taken k step floor (now a ∷ now b ∷ []) (length (now work)) ⌝ }
-    ensures { λ r. ⌜ Gives (length (now (a .entry))) k r (bestOver k step floor (leastRow (now (a .entry) ∷ now (b .entry) ∷ []))) ⌝ }
+    ensures { λ r. ⌜ Gives (length (now (a .entry))) k r (value (bestOver k step floor (leastRow (now (a .entry) ∷ now (b .entry) ∷ [])))) ⌝ }
 {
     let mut least = [0.0f32; 720];
     let n = a.len();
@@ -201,9 +201,8 @@ pub fn best_for_levels(
     floor: f32,
     work: &mut [u16],
 ) -> Chosen
-    ensures { λ r. ⌜ (answers (r .answer) (r .hues) ≡ pairSays k step floor (now (a .entry)) (now (b .entry)) (length (now (work .entry)))) × (r .hues ≡ huesBeside (pairSays k step floor (now (a .entry)) (now (b .entry)) (length (now (work .entry))))) ⌝ }
-    ensures { λ r. ⌜ r .tightest ≡ tightestBeside (length (now (a .entry))) k (pairSays k step floor (now (a .entry)) (now (b .entry)) (length (now (work .entry)))) ⌝ }
-    ensures { λ r. ⌜ ((w : ℕ) → pairSays k step floor (now (a .entry)) (now (b .entry)) (length (now (work .entry))) ≡ refused w → now (work .exit) ≡ now (work .entry)) ⌝ }
+    ensures { λ r. ⌜ Gives (length (now (a .entry))) k r (pairSays k step floor (now (a .entry)) (now (b .entry)) (length (now (work .entry)))) ⌝ }
+    ensures { λ r. ⌜ Untouched (pairSays k step floor (now (a .entry)) (now (b .entry)) (length (now (work .entry)))) (now (work .entry)) (now (work .exit)) ⌝ }
 {
     let checked = check(a, b, floor, k, step, work.len());
     match checked {
@@ -235,9 +234,8 @@ pub fn largest(row: &[f32]) -> f32
 // The best chroma of one row, as of two: from a floor up, for k hues at least `step` apart all round, by 30 halvings. The work buffer's
 // content is left free where the call is accepted, and does not matter.
 pub fn best_for_row(row: &[f32], k: usize, step: usize, floor: f32, work: &mut [u16]) -> Chosen
-    ensures { λ r. ⌜ (answers (r .answer) (r .hues) ≡ rowsSay k step floor (now (row .entry) ∷ []) (length (now (work .entry)))) × (r .hues ≡ huesBeside (rowsSay k step floor (now (row .entry) ∷ []) (length (now (work .entry))))) ⌝ }
-    ensures { λ r. ⌜ r .tightest ≡ tightestBeside (length (now (row .entry))) k (rowsSay k step floor (now (row .entry) ∷ []) (length (now (work .entry)))) ⌝ }
-    ensures { λ r. ⌜ ((w : ℕ) → rowsSay k step floor (now (row .entry) ∷ []) (length (now (work .entry))) ≡ refused w → now (work .exit) ≡ now (work .entry)) ⌝ }
+    ensures { λ r. ⌜ Gives (length (now (row .entry))) k r (rowsSay k step floor (now (row .entry) ∷ []) (length (now (work .entry)))) ⌝ }
+    ensures { λ r. ⌜ Untouched (rowsSay k step floor (now (row .entry) ∷ []) (length (now (work .entry)))) (now (work .entry)) (now (work .exit)) ⌝ }
 {
     let checked = placement_checks::check(row, floor, k, step, work.len());
     match checked {

@@ -13,7 +13,7 @@ use Rattle.limits.specs.Taken.{hueCountTaken}
 use Rattle.limits.proofs.HueCount.{both}
 use Rattle.placement_rules.specs.Placing.{stepFor}
 use Rattle.placement_rules.specs.Spacing.{Apart}
-use Rattle.placement_rules.proofs.Earliest.{below-or-not}
+use Rattle.limits.proofs.Numbers.{below-or-not}
 use Rattle.placement_rules.proofs.Step.{step-taken, steps-fit}
 use Rattle.pair_rules.specs.Limit.{Hues}
 

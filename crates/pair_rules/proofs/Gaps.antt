@@ -11,12 +11,13 @@ use Rattle.placement_rules.specs.Placing.{allowedAt}
 use Rattle.placement_rules.proofs.Stored.{first-of}
 use Rattle.placement_rules.proofs.Allowed.{round}
 use Rattle.placement_rules.proofs.Gaps.{least, least-anywhere}
-use Rattle.pair_rules.specs.Pair.{Best, found, placedAt, bestOver, tightestBeside}
+use Rattle.pair_rules.specs.declared.Chosen.{Chosen}
+use Rattle.pair_rules.specs.Pair.{Best, found, placedAt, bestOver, Gives}
 use Rattle.pair_rules.proofs.Promise.{last, found-is}
 
--- a smallest gap beside an answer, over rings of one length and answers that are one
-pub gap-same : (k : ℕ) {n m : ℕ} {x y : Said Best} (gap : ℕ) → n ≡ m → x ≡ y → gap ≡ tightestBeside n k x → gap ≡ tightestBeside m k y
-gap-same k {m} {x} gap long e g = g ∙ ap (λ (n : ℕ). tightestBeside n k x) long ∙ ap (tightestBeside m k) e
+-- what is handed back, over rings of one length and answers that are one
+pub gives-same : {k n m : ℕ} {r : Chosen} {x y : Said Best} → n ≡ m → x ≡ y → Gives n k r x → Gives m k r y
+gives-same {k} {m} {r} {x} long e g = subst (Gives m k r) e (subst (λ (n : ℕ). Gives n k r x) long g)
 
 pub best-least : (k step : ℕ) (floor : Float) (row : List Float) → 1 ≤ k → k ≤ 16 → 1 ≤ step → step ≤ length row → (c : Float) (hues : List ℕ) → bestOver k step floor row ≡ found c hues
     → Least (λ i. true) (length row) k step (tightest (length row) (take k hues)) (take k hues)

@@ -17,7 +17,7 @@ use Rattle.limits.specs.Answers.{Said, value}
 use Rattle.limits.specs.Taken.{f32Of, upTo, chromaTaken}
 use Rattle.limits.proofs.Floats.{never}
 use Rattle.limits.proofs.HueCount.{both, hue-count}
-use Rattle.limits.proofs.Checks.{all-pass}
+use Rattle.limits.proofs.Checks.{all-pass, same-value}
 use Rattle.limits.specs.Each.{Each, F32}
 use Rattle.halving.specs.Midpoint.{halved, halve}
 use Rattle.halving.specs.Patterns.{next}
@@ -275,12 +275,9 @@ module _ (k step : ℕ) (floor : Float) (rows : List (List Float)) (room : ℕ) 
       let t = all-pass (checks k step floor n (lengthsTaken rows) (entriesTaken rows) room) (value (bestOver k step floor (leastRow rows))) best h in
       let a = hue-count k (t .0 .0) in
       let s = both (leb 1 step) (leb step n) (t .0 .1 .1 .1 .0) in
-      let e : bestOver k step floor (leastRow rows) ≡ best = same (bestOver k step floor (leastRow rows)) best (t .1) in
+      let e : bestOver k step floor (leastRow rows) ≡ best = same-value (bestOver k step floor (leastRow rows)) best (t .1) in
       let g : Given k step rows = record { some-hue = a .0; few-hues = a .1; some-step = leb-true 1 step (s .0); within = leb-true step n (s .1); lengths = t .0 .1 .1 .0; entries = t .0 .1 .1 .1 .1 .0; f32 = f32 } in
       record { given = g; taken = t .0 .1 .0; is = e }
-    where
-      same : (x y : Best) → _≡_ {A = Said Best} (value x) (value y) → x ≡ y
-      same x y h = cc
 
   pub best-is-limit : (c : Float) (hues : List ℕ) → le (f32Of 35) floor ≡ true → rowsSay k step floor rows room ≡ value (found c hues) → Limit k step rows c hues
   unfolding halve

@@ -1,6 +1,7 @@
 -- Document 01, "One pair", as a call: "If the largest is below the floor, or placement fails at the floor, the answer is none. Otherwise lo = floor, hi = largest, then
 -- 30 halvings: mid = 0.5 × (lo + hi), each operation rounded once; placement at mid moves lo, else hi. The answer is the last chroma placed, with its hues."
 -- The last chroma placed is where lo stands at the end. Definitions only.
+use mathlib.Core.Path.{_≡_}
 use Prim.Native.Nat.{ℕ}
 use mathlib.Core.Bool.{Bool, true, false, _&&_, cond}
 use mathlib.Core.List.{List, [], _∷_}
@@ -16,6 +17,7 @@ use Rattle.placement_rules.specs.Gaps.{tightest}
 use Rattle.placement_rules.specs.Placing.{allowedAt, sixteen, checkedRing}
 use Rattle.pair_rules.specs.declared.Answer.{Answer}
 use Rattle.pair_rules.specs.declared.Answer.the-variants.{Found, Nothing, Refused}
+use Rattle.pair_rules.specs.declared.Chosen.{Chosen}
 use Rattle.pair_rules.specs.Rows.{ringLength, leastRow, largest}
 
 -- none, or a chroma with sixteen hues
@@ -88,3 +90,9 @@ abbrev pub answers : Answer → List ℕ → Said Best
 answers (Found c) hues = value (found c hues)
 answers Nothing hues = value none
 answers (Refused w) hues = refused (number w)
+
+-- what a call hands back says this: an answer, its sixteen hues, and the smallest gap of k of them on a ring of n
+pub record Gives (n k : ℕ) (r : Chosen) (said : Said Best) : Type 0 where
+  pub says : answers (r .answer) (r .hues) ≡ said
+  pub beside : r .hues ≡ huesBeside said
+  pub tightest-is : r .tightest ≡ tightestBeside n k said

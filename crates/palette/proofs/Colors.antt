@@ -8,7 +8,7 @@ use native.Mathlib.Omega.{arith}
 use lib.Ieee.{Float}
 use lib.ListN.{length, getD, take, replicate, length-append, length-replicate, List·getD-append}
 use lib.Seq.{length-take-le, getD-append-add, getD-take, ext-getD}
-use Rattle.halving.proofs.Least.{below-or-not}
+use Rattle.limits.proofs.Numbers.{below-or-not}
 use Rattle.srgb.specs.declared.Srgb8.{Srgb8}
 use Rattle.gamut.specs.Gamut.{levelOf}
 use Rattle.palette_checks.specs.declared.Design.{Design}

@@ -142,7 +142,8 @@ fn colors_of(design: Design, chroma: f32, cos: &[f32], sin: &[f32]) -> [Srgb8; 3
 
 // Derives a palette: dark hues, then light ones, each colour clipped to the gamut of sRGB, so that it may have less chroma than asked.
 pub fn derive(design: Design, chroma: f32, cos: &[f32], sin: &[f32]) -> Palette
-    ensures { λ r. ⌜ (derivationSaid (r .answer) (r .colors) ≡ derivationSays design chroma (now (cos .entry)) (now (sin .entry))) × (r .colors ≡ colorsBeside (derivationSays design chroma (now (cos .entry)) (now (sin .entry)))) ⌝ }
+    ensures { λ r. ⌜ (derivationSaid (r .answer) (r .colors) ≡ derivationSays design chroma (now (cos .entry)) (now (sin .entry)))
+        × (r .colors ≡ colorsBeside (derivationSays design chroma (now (cos .entry)) (now (sin .entry)))) ⌝ }
 {
     let checked = palette_checks::check_design(design, chroma, cos, sin);
     match checked {
@@ -266,7 +267,8 @@ fn tried(c: f32) -> bool
 // Lowers a chroma by 0.05 while it is tried, until its palette has no finding.
 fn lower_from(design: Design, chroma: f32, cos: &[f32], sin: &[f32]) -> BackedOff
     requires { ⌜ Ready design (now cos) (now sin) × (chromaTaken chroma ≡ true) ⌝ }
-    ensures { λ r. ⌜ (backOffSaid (r .answer) ≡ value (endOf (judgeAt design (now (cos .entry)) (now (sin .entry))) chroma)) × (r .colors ≡ colorsAfter design (now (cos .entry)) (now (sin .entry)) (value (endOf (judgeAt design (now (cos .entry)) (now (sin .entry))) chroma))) ⌝ }
+    ensures { λ r. ⌜ (backOffSaid (r .answer) ≡ value (endOf (judgeAt design (now (cos .entry)) (now (sin .entry))) chroma))
+        × (r .colors ≡ colorsAfter design (now (cos .entry)) (now (sin .entry)) (value (endOf (judgeAt design (now (cos .entry)) (now (sin .entry))) chroma))) ⌝ }
 {
     let k = design.k;
     let mut c = chroma;
@@ -296,7 +298,8 @@ fn lower_from(design: Design, chroma: f32, cos: &[f32], sin: &[f32]) -> BackedOf
 // The first chroma from the one asked for down, in steps of 0.05, at which the palette of this one design has no finding, as sRGB
 // shows it. It is no limit: another design may pass at a greater chroma.
 pub fn back_off(design: Design, chroma: f32, cos: &[f32], sin: &[f32]) -> BackedOff
-    ensures { λ r. ⌜ (backOffSaid (r .answer) ≡ backOffSays design chroma (now (cos .entry)) (now (sin .entry))) × (r .colors ≡ colorsAfter design (now (cos .entry)) (now (sin .entry)) (backOffSays design chroma (now (cos .entry)) (now (sin .entry)))) ⌝ }
+    ensures { λ r. ⌜ (backOffSaid (r .answer) ≡ backOffSays design chroma (now (cos .entry)) (now (sin .entry)))
+        × (r .colors ≡ colorsAfter design (now (cos .entry)) (now (sin .entry)) (backOffSays design chroma (now (cos .entry)) (now (sin .entry)))) ⌝ }
 {
     let checked = palette_checks::check_design(design, chroma, cos, sin);
     match checked {

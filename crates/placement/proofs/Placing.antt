@@ -5,15 +5,12 @@ use mathlib.Core.List.{List, [], _∷_, map}
 use Prim.Native.Nat.{ℕ, zero, suc, _+_, _-_, _%_, _≤_, _<_, min}
 use native.Mathlib.Omega.{arith}
 use lib.Dec.{leb, ltb}
-use lib.ListN.{length, getD, set, take, replicate}
+use lib.ListN.{length, getD, set, replicate}
 use borrow.Author.Tests.{le-ltb, lt-ltb, le-leb, lt-leb}
-use Rattle.limits.specs.Answers.{Said, value}
+use Rattle.limits.specs.Answers.{value}
 use Rattle.placement_rules.specs.declared.Placement.{Placement}
-use Rattle.placement_rules.specs.declared.Answer.the-variants.{Placed}
 use Rattle.placement_rules.specs.Ring.{Places, nowhere, placed, before, earliest, onward, fromStart, reduced}
-use Rattle.placement_rules.specs.Gaps.{tightest}
-use Rattle.placement_rules.specs.Placing.{stores, sixteen, huesBeside, tightestBeside, answers}
-use Rattle.placement.specs.Inner.{Gives}
+use Rattle.placement_rules.specs.Placing.{stores, sixteen, Gives}
 use Rattle.placement_rules.proofs.Earliest.{from, nearer-same, nearer-none}
 
 -- the indices reduced by n and stored into the hues from place t on
@@ -74,10 +71,6 @@ pub not-there : (ok : ℕ → Bool) (n k step s : ℕ) → ok s ≡ false → fr
 unfolding fromStart
 not-there ok n k step s f = rw f
 
--- ---- an answer gives what is stored
-module _ (n k : ℕ) where
-  pub gives : (hues : List ℕ) (t : ℕ) (p : Places) → t ≡ tightest n (take k hues) → sixteen p ≡ placed hues → Gives n k (record { answer = Placed; hues = hues; tightest = t }) p
-  gives hues t p f e = record { says = ap value (sym e); beside = sym (ap (λ (q : Places). huesBeside (value q)) e); tightest-is = f ∙ sym (ap (λ (q : Places). tightestBeside n k (value q)) e) }
-
-  pub gives-none : (r : Placement) (p : Places) → sixteen p ≡ nowhere → Gives n k r nowhere → Gives n k r p
-  gives-none r p e g = record { says = g .says ∙ ap value (sym e); beside = g .beside ∙ sym (ap (λ (q : Places). huesBeside (value q)) e); tightest-is = g .tightest-is ∙ sym (ap (λ (q : Places). tightestBeside n k (value q)) e) }
+-- ---- an answer gives places that are the same
+pub gives-same : {n k : ℕ} {r : Placement} {p q : Places} → p ≡ q → Gives n k r (value q) → Gives n k r (value p)
+gives-same {n} {k} {r} e g = subst (λ (p : Places). Gives n k r (value p)) (sym e) g

@@ -15,7 +15,8 @@ use Rattle.placement_rules.specs.Ring.{earliest}
 use Rattle.placement_rules.specs.Placing.{allowedAt}
 use Rattle.placement.specs.Inner.{firstAllowed, Filled, FillAsked}
 use Rattle.placement_rules.proofs.Allowed.{round}
-use Rattle.placement_rules.proofs.Earliest.{below-or-not, to}
+use Rattle.limits.proofs.Numbers.{below-or-not}
+use Rattle.placement_rules.proofs.Earliest.{to}
 use Rattle.placement_rules.proofs.Earliest as first
 use Rattle.placement_rules.proofs.Round.{round-on, itself, passed}
 

@@ -6,10 +6,8 @@ use Prim.Native.Nat.{ℕ, _≤_, _<_}
 use lib.Dec.{ltb}
 use lib.Ieee.{Float}
 use lib.ListN.{length, getD}
-use Rattle.limits.specs.Answers.{value}
-use Rattle.placement_rules.specs.declared.Placement.{Placement}
-use Rattle.placement_rules.specs.Ring.{Places, earliest}
-use Rattle.placement_rules.specs.Placing.{allowedAt, sixteen, huesBeside, tightestBeside, answers}
+use Rattle.placement_rules.specs.Ring.{Places, earliest, fromStart, reduced, placement}
+use Rattle.placement_rules.specs.Placing.{allowedAt, sixteen}
 
 -- arguments that are taken
 pub record Asked (row : List Float) (k step : ℕ) : Type 0 where
@@ -44,8 +42,9 @@ pub record GapsAsked (n k : ℕ) (hues : List ℕ) : Type 0 where
   pub short : n ≤ 720
   pub within : (p : ℕ) → p < k → getD hues p 0 < n
 
--- an answer with its hues and their smallest gap gives these places, of k on a ring of n
-pub record Gives (n k : ℕ) (r : Placement) (places : Places) : Type 0 where
-  pub says : answers (r .answer) (r .hues) ≡ value (sixteen places)
-  pub beside : r .hues ≡ huesBeside (value (sixteen places))
-  pub tightest-is : r .tightest ≡ tightestBeside n k (value (sixteen places))
+-- sixteen indices: what is placed from one start, and from the first start that succeeds
+abbrev pub placedFrom : List Float → Float → ℕ → ℕ → ℕ → Places
+placedFrom row c k step start = sixteen (reduced (length row) (fromStart (allowedAt row c) (length row) k step start))
+
+abbrev pub placedOn : List Float → Float → ℕ → ℕ → Places
+placedOn row c k step = sixteen (placement (allowedAt row c) (length row) k step)

@@ -6,15 +6,15 @@ pub use placement_rules::Placement;
 ghost use mathlib.Core.Path.{_≡_};
 ghost use Prim.Native.Nat.{ℕ, _+_, _%_, _≤_, _<_, min};
 ghost use lib.ListN.{length, take};
-ghost use Rattle.limits.specs.Answers.{refused};
-ghost use Rattle.placement_rules.specs.Ring.{Places, nowhere, placed, earliest, reduced, fromStart, placement};
+ghost use Rattle.limits.specs.Answers.{value, Untouched};
+ghost use Rattle.placement_rules.specs.Ring.{nowhere, placed, earliest};
 ghost use Rattle.placement_rules.specs.Gaps.{around, tightest};
-ghost use Rattle.placement_rules.specs.Placing.{allowedAt, sixteen, placementSays, huesBeside, tightestBeside, answers, isPlaced};
-ghost use Rattle.placement.specs.Inner.{Asked, firstAllowed, Filled, FillAsked, GapsAsked, Gives};
+ghost use Rattle.placement_rules.specs.Placing.{allowedAt, placementSays, isPlaced, Gives};
+ghost use Rattle.placement.specs.Inner.{Asked, firstAllowed, Filled, FillAsked, GapsAsked, placedFrom, placedOn};
 
 // Nothing is placed.
 fn nowhere() -> Placement
-    ensures { λ r. ⌜ ((n k : ℕ) → Gives n k r nowhere) ⌝ }
+    ensures { λ r. ⌜ ((n k : ℕ) → Gives n k r (value nowhere)) ⌝ }
 {
     Placement {
         answer: Answer::Nowhere,
@@ -60,7 +60,7 @@ fn tightest(n: usize, k: usize, hues: [u16; 16]) -> usize
 // These hues are placed.
 fn placed(n: usize, k: usize, hues: [u16; 16]) -> Placement
     requires { ⌜ GapsAsked n k hues ⌝ }
-    ensures { λ r. ⌜ ((p : Places) → sixteen p ≡ placed hues → Gives n k r p) ⌝ }
+    ensures { λ r. ⌜ Gives n k r (value (placed hues)) ⌝ }
 {
     Placement {
         answer: Answer::Placed,
@@ -125,7 +125,7 @@ fn reduce(j: usize, n: usize) -> u16
 // k indices from a start, each the earliest allowed at least `step` further on, by the table of earliest allowed indices.
 fn place_from(m: &[f32], c: f32, next: &[u16], k: usize, step: usize, start: usize) -> Placement
     requires { ⌜ Asked (now m) k step × (Filled (now m) c 0 (now next) × (start < length (now m))) ⌝ }
-    ensures { λ r. ⌜ Gives (length (now (m .entry))) k r (reduced (length (now (m .entry))) (fromStart (allowedAt (now (m .entry)) c) (length (now (m .entry))) k step start)) ⌝ }
+    ensures { λ r. ⌜ Gives (length (now (m .entry))) k r (value (placedFrom (now (m .entry)) c k step start)) ⌝ }
 {
     if !(c <= m[start]) {
         return nowhere();
@@ -158,7 +158,7 @@ fn place_from(m: &[f32], c: f32, next: &[u16], k: usize, step: usize, start: usi
 // The first start that succeeds. A start from which k - 1 steps would reach past the ring's end is not tried.
 fn first_start(m: &[f32], c: f32, next: &[u16], k: usize, step: usize) -> Placement
     requires { ⌜ Asked (now m) k step × Filled (now m) c 0 (now next) ⌝ }
-    ensures { λ r. ⌜ Gives (length (now (m .entry))) k r (placement (allowedAt (now (m .entry)) c) (length (now (m .entry))) k step) ⌝ }
+    ensures { λ r. ⌜ Gives (length (now (m .entry))) k r (value (placedOn (now (m .entry)) c k step)) ⌝ }
 {
     let reach = (k - 1) * step;
     let mut s: usize = 0;
@@ -187,7 +187,7 @@ pub fn is_placed(answer: Answer) -> bool
 // The placement on a ring whose arguments are taken.
 fn place(m: &[f32], c: f32, k: usize, step: usize, work: &mut [u16]) -> Placement
     requires { ⌜ Asked (now m) k step × (length (now m) ≤ length (now work)) ⌝ }
-    ensures { λ r. ⌜ Gives (length (now (m .entry))) k r (placement (allowedAt (now (m .entry)) c) (length (now (m .entry))) k step) ⌝ }
+    ensures { λ r. ⌜ Gives (length (now (m .entry))) k r (value (placedOn (now (m .entry)) c k step)) ⌝ }
 {
     let first = first_allowed(m, c);
     if first == 65535 {
@@ -200,9 +200,8 @@ fn place(m: &[f32], c: f32, k: usize, step: usize, work: &mut [u16]) -> Placemen
 // k hues at least `step` apart all round a ring, each with an entry of at least c: the first placement, with its smallest gap
 // round the ring, or none. The work buffer's content is left free where the call is accepted, and does not matter.
 pub fn feasible(m: &[f32], c: f32, k: usize, step: usize, work: &mut [u16]) -> Placement
-    ensures { λ r. ⌜ (answers (r .answer) (r .hues) ≡ placementSays k step c (now (m .entry)) (length (now (work .entry)))) × (r .hues ≡ huesBeside (placementSays k step c (now (m .entry)) (length (now (work .entry))))) ⌝ }
-    ensures { λ r. ⌜ r .tightest ≡ tightestBeside (length (now (m .entry))) k (placementSays k step c (now (m .entry)) (length (now (work .entry)))) ⌝ }
-    ensures { λ r. ⌜ ((w : ℕ) → placementSays k step c (now (m .entry)) (length (now (work .entry))) ≡ refused w → now (work .exit) ≡ now (work .entry)) ⌝ }
+    ensures { λ r. ⌜ Gives (length (now (m .entry))) k r (placementSays k step c (now (m .entry)) (length (now (work .entry)))) ⌝ }
+    ensures { λ r. ⌜ Untouched (placementSays k step c (now (m .entry)) (length (now (work .entry)))) (now (work .entry)) (now (work .exit)) ⌝ }
 {
     let checked = placement_checks::check(m, c, k, step, work.len());
     match checked {

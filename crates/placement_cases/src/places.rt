@@ -14,7 +14,7 @@ pub fn answer_step(line: Line) {
     let words = line.words;
     match placement_checks::step_for(size_at(words, 0)) {
         Stepping::Is(step) => Answer::new().with(0).with_size(step).write(line),
-        Stepping::Declined(why) => Answer::new().with_byte(why.number()).with(0).write(line),
+        Stepping::Refused(why) => Answer::new().with_byte(why.number()).with(0).write(line),
     }
 }
 

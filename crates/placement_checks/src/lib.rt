@@ -31,7 +31,7 @@ pub fn step_for(k: usize) -> Stepping
         14 => Stepping::Is(44),
         15 => Stepping::Is(41),
         16 => Stepping::Is(39),
-        0 | 17.. => Stepping::Declined(Refusal::HueCount),
+        0 | 17.. => Stepping::Refused(Refusal::HueCount),
     }
 }
 

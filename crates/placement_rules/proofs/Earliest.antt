@@ -1,22 +1,13 @@
 -- The earliest allowed index: where it lies, that it is allowed and that none before it is, and what a nearer end makes of it. Assumes nothing.
 use mathlib.Core.Path.{_≡_, refl, sym, ap, _∙_}
-use mathlib.Core.Logic.{_⊎_, inl, inr}
+use mathlib.Core.Logic.{inl, inr}
 use mathlib.Core.Bool.{Bool, true, false, cond}
 use Prim.Native.Nat.{ℕ, zero, suc, _+_, _-_, _≤_, _<_}
 use native.Mathlib.Nat.{le-refl}
 use native.Mathlib.Omega.{arith}
-use lib.Dec.{leb}
-use borrow.Author.Tests.{leb-true, leb-false}
+use Rattle.limits.proofs.Numbers.{below-or-not}
 use Rattle.limits.proofs.Floats.{never}
 use Rattle.placement_rules.specs.Ring.{earliest}
-
--- a number is below another, or not
-pub below-or-not : (a b : ℕ) → (a < b) ⊎ (b ≤ a)
-below-or-not a b = go (leb b a) refl
-  where
-    go : (t : Bool) → leb b a ≡ t → (a < b) ⊎ (b ≤ a)
-    go true e = inr (leb-true b a e)
-    go false e = inl (leb-false b a e)
 
 module _ (ok : ℕ → Bool) where
   pub here : (far i : ℕ) → ok i ≡ true → earliest ok (suc far) i ≡ i

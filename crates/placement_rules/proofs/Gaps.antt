@@ -19,7 +19,7 @@ use Rattle.placement_rules.specs.Ring.{Places, nowhere, placed, placemen
 use Rattle.placement_rules.specs.Spacing.{Apart, Spaced}
 use Rattle.placement_rules.specs.Gaps.{around, tightestFrom, tightest, Least}
 use Rattle.placement_rules.specs.Placing.{allowedAt, stores, sixteen, checked, placementSays, tightestBeside}
-use Rattle.placement_rules.proofs.Earliest.{below-or-not}
+use Rattle.limits.proofs.Numbers.{below-or-not}
 use Rattle.placement_rules.proofs.Chain.{Chain, closes}
 use Rattle.placement_rules.proofs.Sorted.{All, Pairs, all-of, pairs-of}
 use Rattle.placement_rules.proofs.Laws.{reduce, apart-sym, spaced, went, sound}
@@ -156,9 +156,3 @@ module _ (k step : ℕ) (c : Float) (row : List Float) (room : ℕ) (hues : List
           let l = least (allowedAt row c) (length row) k step (round row c) some from within js e in
           let first : take k hues ≡ js = first-of k js hues (let f : stores (replicate 16 0) 0 js ≡ hues = cc in f) (l .spaced .count) few in
           subst (λ (is : List ℕ). Least (allowedAt row c) (length row) k step (tightest (length row) is) is) (sym first) l
-
--- ---- the smallest inputs of docs/DECISIONS.md: the closing gap counts; of one index it is the ring; it is the smallest, and neither the largest nor the closing one; and in
--- a pair those of the last chroma placed and of the floor
-smallest-inputs : (tightest 3 (0 ∷ 2 ∷ []) ≡ 1) × ((tightest 2 (0 ∷ []) ≡ 2) × ((tightest 3 (0 ∷ 1 ∷ []) ≡ 1) × ((tightest 720 (100 ∷ 460 ∷ []) ≡ 360) × (tightest 720 (0 ∷ 301 ∷ []) ≡ 301))))
-unfolding tightest tightestFrom around
-smallest-inputs = (refl, (refl, (refl, (refl, refl))))

@@ -12,7 +12,7 @@ use lib.ListN.{length, getD}
 use Rattle.limits.proofs.Floats.{never}
 use Rattle.placement_rules.specs.Ring.{Places, nowhere, placed, before, orElse, onward, fromStart, firstFrom, reduced, placement}
 use Rattle.placement_rules.specs.Spacing.{Apart, Spaced}
-use Rattle.placement_rules.proofs.Earliest.{below-or-not}
+use Rattle.limits.proofs.Numbers.{below-or-not}
 use Rattle.placement_rules.proofs.Chain.{Some, Chain, closes, later, pairs, Taken, taken, succeeds}
 use Rattle.placement_rules.proofs.Sorted.{All, Pairs, all-of, pairs-of, sorted, sorted-long, sorted-all, Ordered, sorted-pairs, all-map}
 

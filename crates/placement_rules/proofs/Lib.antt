@@ -1,3 +1,4 @@
+pub mod Smallest
 pub mod Earliest
 pub mod Chain
 pub mod Sorted

@@ -12,7 +12,7 @@ use lib.ListN.{length}
 use borrow.Author.Tests.{le-leb}
 use Rattle.placement_rules.specs.Placing.{workNeeded, checked, placementSays}
 
--- what is needed in so many words: one entry for each position, no more and no fewer
+-- what is needed, as a number: one entry for each position, no more and no fewer
 pub one-lap : (n room : ℕ) → (workNeeded n ≤ room) ↔ (n ≤ room)
 unfolding workNeeded
 one-lap n room = (λ (h : workNeeded n ≤ room). omega arith, λ (h : n ≤ room). omega arith)

@@ -8,7 +8,8 @@ use native.Mathlib.Nat.{add-mod-right}
 use native.Mathlib.Omega.{arith}
 use Rattle.limits.proofs.Floats.{never}
 use Rattle.placement_rules.specs.Ring.{earliest}
-use Rattle.placement_rules.proofs.Earliest.{below-or-not, here, skip, is-ok, first, nearer-same}
+use Rattle.limits.proofs.Numbers.{below-or-not}
+use Rattle.placement_rules.proofs.Earliest.{here, skip, is-ok, first, nearer-same}
 
 module _ (ok : ℕ → Bool) (n : ℕ) (round : (i : ℕ) → ok (i % n) ≡ ok i) where
   again : (i : ℕ) → ok (i + n) ≡ ok i

@@ -1,4 +1,5 @@
 -- Document 01, "Hue ring", as a call: which arguments are refused by which number, what is handed out as sixteen indices, and the step for k. Definitions only.
+use mathlib.Core.Path.{_≡_}
 use Prim.Native.Nat.{ℕ, suc, _+_, _-_, _/_, _%_}
 use mathlib.Core.Bool.{Bool, true, false, _&&_, cond}
 use mathlib.Core.List.{List, [], _∷_}
@@ -10,8 +11,9 @@ use Rattle.limits.specs.Refusals.{number}
 use Rattle.limits.specs.Taken.{hueCountTaken, chromaTaken, entryTaken, every}
 use Rattle.placement_rules.specs.declared.Answer.{Answer}
 use Rattle.placement_rules.specs.declared.Answer.the-variants.{Placed, Nowhere, Refused}
+use Rattle.placement_rules.specs.declared.Placement.{Placement}
 use Rattle.placement_rules.specs.declared.Stepping.{Stepping}
-use Rattle.placement_rules.specs.declared.Stepping.the-variants.{Is, Declined}
+use Rattle.placement_rules.specs.declared.Stepping.the-variants as stepping
 use Rattle.placement_rules.specs.Ring.{Places, nowhere, placed, placement}
 use Rattle.placement_rules.specs.Gaps.{tightest}
 
@@ -74,6 +76,12 @@ answers Placed hues = value (placed hues)
 answers Nowhere hues = value nowhere
 answers (Refused w) hues = refused (number w)
 
+-- what a call hands back says this: an answer, its sixteen hues, and the smallest gap of k of them on a ring of n
+pub record Gives (n k : ℕ) (r : Placement) (said : Said Places) : Type 0 where
+  pub says : answers (r .answer) (r .hues) ≡ said
+  pub beside : r .hues ≡ huesBeside said
+  pub tightest-is : r .tightest ≡ tightestBeside n k said
+
 -- whether an answer is a placement
 abbrev pub isPlaced : Answer → Bool
 isPlaced Placed = true
@@ -82,8 +90,8 @@ isPlaced (Refused w) = false
 
 -- what the step for k hands back, and what it says: k outside 1 to 16 is refused by 1
 abbrev pub stepSaid : Stepping → Said ℕ
-stepSaid (Is s) = value s
-stepSaid (Declined w) = refused (number w)
+stepSaid (stepping.Is s) = value s
+stepSaid (stepping.Refused w) = refused (number w)
 
 unfoldable pub stepSays : ℕ → Said ℕ
 stepSays k = cond (hueCountTaken k) (value (stepFor k)) (refused 1)

@@ -25,5 +25,5 @@ pub enum Stepping {
     // ceil(600 / k) + 1
     Is(usize),
     // refused by 1
-    Declined(Refusal),
+    Refused(Refusal),
 }

@@ -7,12 +7,8 @@ use Prim.Native.Nat.{ℕ, _+_, _-_, _*_, _≤_}
 use native.Mathlib.Omega.{arith}
 use lib.Dec.{leb}
 use borrow.Author.Tests.{leb-true, le-leb, eq-eqb, ne-eqb}
-use Rattle.limits.proofs.Floats.{never}
+use Rattle.limits.proofs.HueCount.{both}
 use Rattle.ring_reading.specs.Numbers.{isDigit, isLeading, numberOf}
-
-both : (a b : Bool) → (a && b) ≡ true → (a ≡ true) × (b ≡ true)
-both true b h = (refl, h)
-both false b h = never h
 
 and-false : (a : Bool) → (a && false) ≡ false
 and-false true = refl

@@ -7,7 +7,7 @@ use native.Mathlib.Omega.{arith}
 use lib.Arith.{lt-of-le-ne}
 use lib.Pow.{pow-add, pow-pos, pow-mono}
 use Rattle.halving.specs.Patterns.{worth, least, halfWay}
-use Rattle.halving.proofs.Least.{below-or-not}
+use Rattle.limits.proofs.Numbers.{below-or-not}
 use Rattle.halving.proofs.Patterns.{worth-normal, worth-next}
 use Rattle.halving.proofs.Nearest.{nearest-is}
 use Rattle.roots.proofs.Powers.{mul-pow, pow-pow}

@@ -6,7 +6,7 @@ use native.Mathlib.Nat.{le-trans, lt-irrefl, lt-of-le-of-lt, lt-of-lt-of-le, mul
 use native.Mathlib.Omega.{arith}
 use lib.Pow.{pow-add, pow-pos}
 use Rattle.halving.specs.Patterns.{worth}
-use Rattle.halving.proofs.Least.{below-or-not}
+use Rattle.limits.proofs.Numbers.{below-or-not}
 use Rattle.halving.proofs.Patterns.{Normal, small-or-normal, worth-small, worth-normal}
 use Rattle.roots.proofs.Powers.{mul-pow, pow-pow}
 

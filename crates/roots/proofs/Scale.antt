@@ -8,7 +8,7 @@ use lib.Count.{leadingZeros, leading-top}
 use lib.Dec.{lit≤, lit<}
 use lib.Pow.{pow-add, pow-pos, pow-mono}
 use Rattle.halving.specs.Patterns.{worth}
-use Rattle.halving.proofs.Least.{below-or-not}
+use Rattle.limits.proofs.Numbers.{below-or-not}
 use Rattle.halving.proofs.Patterns.{worth-small, worth-normal}
 
 -- the shift z that brings f to 24 digits

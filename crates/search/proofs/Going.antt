@@ -14,14 +14,15 @@ use Rattle.gamut.proofs.Table.{row-long, part, part-row}
 use Rattle.placement_rules.specs.Placing.{stepFor}
 use Rattle.placement_rules.specs.Gaps.{tightest}
 use Rattle.placement_rules.proofs.Step.{step-taken}
+use Rattle.pair_rules.specs.declared.Chosen.{Chosen}
 use Rattle.pair_rules.specs.declared.Answer.{Answer}
 use Rattle.pair_rules.specs.declared.Answer.the-variants.{Found, Nothing, Refused}
 use Rattle.pair_rules.specs.Rows.{leastRow}
-use Rattle.pair_rules.specs.Pair.{Best, bestOver, rowsSay, pairSays, tightestBeside, answers}
-use Rattle.pair_rules.proofs.Gaps.{gap-same}
+use Rattle.pair_rules.specs.Pair.{Best, bestOver, rowsSay, pairSays, tightestBeside, answers, Gives}
+use Rattle.pair_rules.proofs.Gaps.{gives-same}
 use Rattle.search_rules.specs.declared.Job.{Job}
 use Rattle.search_rules.specs.Job.{floorOf, qualifies, beats, movedOn, replaced, afterPair, pairBest, searched}
-use Rattle.search.specs.Inner.{pairTightest, pairGiven, Stepped}
+use Rattle.search.specs.Inner.{pairGiven, Stepped}
 use Rattle.search_rules.proofs.Unbroken.{sound}
 use Rattle.search_rules.proofs.Floor.{floor-taken}
 use Rattle.search_rules.proofs.Rows.{rows-left}
@@ -41,9 +42,9 @@ pair-says j table room d l step floor s e f =
     (rows-left k (stepFor k) (floorOf (j .best)) a b room good (t .hue-count-taken) (step-taken k (t .hue-count-taken)) (floor-taken (j .levels) (j .best) (t .best-held))
     (row-long table (j .levels) d (s .long) (s .dark-in)) (row-long table (j .levels) l (s .long) (s .light-in)) (s .room-enough))
 
--- its smallest gap goes by the circle
-pub gap-round : (j : Job) (table : List Float) (room d l gap : ℕ) {x y : Said Best} → Stepped j table room d l → x ≡ y → gap ≡ tightestBeside (length (part table d)) (j .settings .k) x → gap ≡ pairTightest (j .settings .k) y
-gap-round j table room d l gap s e g = gap-same (j .settings .k) gap (ap length (part-row table d) ∙ row-long table (j .levels) d (s .long) (s .dark-in)) e g
+-- and hands back over the circle
+pub given-round : (j : Job) (table : List Float) (room d l : ℕ) {r : Chosen} {x y : Said Best} → Stepped j table room d l → x ≡ y → Gives (length (part table d)) (j .settings .k) r x → Gives 720 (j .settings .k) r y
+given-round j table room d l s e g = gives-same (ap length (part-row table d) ∙ row-long table (j .levels) d (s .long) (s .dark-in)) e g
 
 -- ---- the job after it
 abbrev after : Job → ℕ → ℕ → Said Best → Said Job
@@ -81,9 +82,9 @@ module _ (j : Job) (table : List Float) (d l : ℕ) where
     went-found c e = went ∙ ap (λ (a : Answer). after j d l (answers a hues)) e
 
     -- with the smallest gap that stands beside the pair's answer
-    pub went-better : (c : Float) → answer ≡ Found c → (t : ℕ) → t ≡ pairTightest (j .settings .k) (pairGiven j table d l) → beats c (j .best) ≡ true → searched j table d l ≡ value (replaced j c d l hues t)
+    pub went-better : (c : Float) → answer ≡ Found c → (t : ℕ) → t ≡ tightestBeside 720 (j .settings .k) (pairGiven j table d l) → beats c (j .best) ≡ true → searched j table d l ≡ value (replaced j c d l hues t)
     went-better c e t f b =
-        let beside : t ≡ tightest 720 (take (j .settings .k) hues) = f ∙ ap (pairTightest (j .settings .k)) (sym says ∙ ap (λ (a : Answer). answers a hues) e) in
+        let beside : t ≡ tightest 720 (take (j .settings .k) hues) = f ∙ ap (tightestBeside 720 (j .settings .k)) (sym says ∙ ap (λ (a : Answer). answers a hues) e) in
         went-found c e ∙ ap (λ (b : Bool). value (cond b (better c) (movedOn j))) b ∙ ap (λ (x : ℕ). value (replaced j c d l hues x)) (sym beside)
 
     pub went-worse : (c : Float) → answer ≡ Found c → beats c (j .best) ≡ false → searched j table d l ≡ value (movedOn j)

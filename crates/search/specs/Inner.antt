@@ -9,20 +9,9 @@ use Rattle.limits.specs.Answers.{Said, value, refused}
 use Rattle.limits.specs.Taken.{entryTaken, every}
 use Rattle.gamut.specs.Table.{rowAt}
 use Rattle.placement_rules.specs.Placing.{workNeeded}
-use Rattle.pair_rules.specs.declared.Answer.{Answer}
-use Rattle.pair_rules.specs.Pair.{Best, answers, huesBeside, tightestBeside}
+use Rattle.pair_rules.specs.Pair.{Best}
 use Rattle.search_rules.specs.declared.Job.{Job}
 use Rattle.search_rules.specs.Job.{unbroken, pairBest}
-
--- what a pair's answer says, with its hues and their smallest gap
-abbrev pub pairAnswers : Answer → List ℕ → Said Best
-pairAnswers a hues = answers a hues
-
-abbrev pub pairHues : Said Best → List ℕ
-pairHues said = huesBeside said
-
-abbrev pub pairTightest : ℕ → Said Best → ℕ
-pairTightest k said = tightestBeside 720 k said
 
 -- the best of a pair of levels, or 7 for its rows
 abbrev pub pairGiven : Job → List Float → ℕ → ℕ → Said Best

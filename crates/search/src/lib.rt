@@ -14,13 +14,14 @@ ghost use mathlib.Core.Path.{_≡_};
 ghost use mathlib.Core.Bool.{true};
 ghost use Prim.Native.Nat.{ℕ, _<_};
 ghost use lib.ListN.{length};
-ghost use Rattle.limits.specs.Answers.{value, refused};
+ghost use Rattle.limits.specs.Answers.{value, refused, Untouched};
 ghost use Rattle.limits.specs.Refusals.{number};
 ghost use Rattle.limits.specs.Taken.{hueCountTaken};
 ghost use Rattle.placement_rules.specs.Placing.{stepFor};
+ghost use Rattle.pair_rules.specs.Pair as pair;
 ghost use Rattle.search_rules.specs.declared.Job.{Job};
 ghost use Rattle.search_rules.specs.Job.{begun, startSays, floorOf, beats, movedOn, replaced, searched, stepSays, stepsFrom, searchSays, Gives};
-ghost use Rattle.search.specs.Inner.{pairAnswers, pairHues, pairTightest, pairGiven, Stepped};
+ghost use Rattle.search.specs.Inner.{pairGiven, Stepped};
 
 // A call that is refused, with the job as it was.
 fn refuse(why: Refusal, job: Job) -> Outcome
@@ -42,8 +43,8 @@ fn accept(job: Job) -> Outcome
     }
 }
 
-// The job at the beginning of a search.
-fn begin(settings: Settings, levels: usize) -> Job
+// The job at the beginning of a search. With 0 levels it is a blank one, to be lent where nothing of it is read.
+pub fn begin(settings: Settings, levels: usize) -> Job
     ensures { λ r. ⌜ r ≡ begun settings levels ⌝ }
 {
     Job {
@@ -132,16 +133,15 @@ fn step_of(k: usize) -> usize
     let stepping = placement_checks::step_for(k);
     match stepping {
         Stepping::Is(step) => step,
-        Stepping::Declined(_) => 0,
+        Stepping::Refused(_) => 0,
     }
 }
 
 // The best of one pair of levels, from the job's floor.
 fn best_of(table: &[f32], work: &mut [u16], job: Job, dark: usize, light: usize) -> Chosen
     requires { ⌜ Stepped job (now table) (length (now work)) dark light ⌝ }
-    ensures { λ r. ⌜ (pairAnswers (r .answer) (r .hues) ≡ pairGiven job (now (table .entry)) dark light) × (r .hues ≡ pairHues (pairGiven job (now (table .entry)) dark light)) ⌝ }
-    ensures { λ r. ⌜ r .tightest ≡ pairTightest (job .settings .k) (pairGiven job (now (table .entry)) dark light) ⌝ }
-    ensures { λ r. ⌜ ((w : ℕ) → pairGiven job (now (table .entry)) dark light ≡ refused w → now (work .exit) ≡ now (work .entry)) ⌝ }
+    ensures { λ r. ⌜ pair.Gives 720 (job .settings .k) r (pairGiven job (now (table .entry)) dark light) ⌝ }
+    ensures { λ r. ⌜ Untouched (pairGiven job (now (table .entry)) dark light) (now (work .entry)) (now (work .exit)) ⌝ }
 {
     let k = job.settings.k;
     let best = job.best;
@@ -161,7 +161,7 @@ fn best_of(table: &[f32], work: &mut [u16], job: Job, dark: usize, light: usize)
 fn go_through(table: &[f32], work: &mut [u16], job: Job, dark: usize, light: usize) -> Outcome
     requires { ⌜ Stepped job (now table) (length (now work)) dark light ⌝ }
     ensures { λ r. ⌜ Gives r job (searched job (now (table .entry)) dark light) ⌝ }
-    ensures { λ r. ⌜ ((w : ℕ) → searched job (now (table .entry)) dark light ≡ refused w → now (work .exit) ≡ now (work .entry)) ⌝ }
+    ensures { λ r. ⌜ Untouched (searched job (now (table .entry)) dark light) (now (work .entry)) (now (work .exit)) ⌝ }
 {
     if !search_checks::qualifies(job.settings, dark as u16, light as u16) {
         return accept(moved_on(job));
@@ -186,7 +186,7 @@ fn go_through(table: &[f32], work: &mut [u16], job: Job, dark: usize, light: usi
 // the call is refused, and so is the work buffer; else that buffer's content is left free, and does not matter.
 pub fn step(table: &[f32], work: &mut [u16], job: Job) -> Outcome
     ensures { λ r. ⌜ Gives r job (stepSays job (now (table .entry)) (length (now (work .entry)))) ⌝ }
-    ensures { λ r. ⌜ ((w : ℕ) → stepSays job (now (table .entry)) (length (now (work .entry))) ≡ refused w → now (work .exit) ≡ now (work .entry)) ⌝ }
+    ensures { λ r. ⌜ Untouched (stepSays job (now (table .entry)) (length (now (work .entry)))) (now (work .entry)) (now (work .exit)) ⌝ }
 {
     let checked = search_checks::check_step(job, table.len(), work.len());
     match checked {
@@ -216,7 +216,7 @@ fn take_steps(table: &[f32], work: &mut [u16], job: Job, count: usize) -> Job
 // A whole search: a start, with a gap from 40 up, and all its steps. Where it is refused the job and the work buffer are as they were.
 pub fn search(settings: Settings, table: &[f32], work: &mut [u16], job: Job) -> Outcome
     ensures { λ r. ⌜ Gives r job (searchSays settings (now (table .entry)) (length (now (work .entry)))) ⌝ }
-    ensures { λ r. ⌜ ((w : ℕ) → searchSays settings (now (table .entry)) (length (now (work .entry))) ≡ refused w → now (work .exit) ≡ now (work .entry)) ⌝ }
+    ensures { λ r. ⌜ Untouched (searchSays settings (now (table .entry)) (length (now (work .entry)))) (now (work .entry)) (now (work .exit)) ⌝ }
 {
     let checked = search_checks::check_start(settings, table);
     match checked {

@@ -11,7 +11,7 @@ ghost use mathlib.Core.Path.{_≡_};
 ghost use mathlib.Core.Bool.{_&&_};
 ghost use Rattle.limits.specs.Answers.{value};
 ghost use Rattle.limits.specs.Refusals.{checkSaid};
-ghost use Rattle.search_rules.specs.Job.{gapStarts, startChecked, bestHeld, handed, huesHeld, tightestHeld, unbroken, stepChecked, qualifies};
+ghost use Rattle.search_rules.specs.Job.{gapStarts, startChecked, bestHeld, handed, huesHeld, tightestHeld, unbroken, stepChecked, farEnough, qualifies};
 
 // Whether a job may be begun with this gap: one that number 2 of document 01 takes, and from 40 up.
 fn starts_gap(gap: f32) -> bool
@@ -30,13 +30,7 @@ pub fn check_start(settings: Settings, table: &[f32]) -> Checked
     if !starts_gap(settings.gap) {
         return Checked::Wrong(Refusal::Gap);
     }
-    if !gamut::takes_table(table) {
-        return Checked::Wrong(Refusal::TableLength);
-    }
-    if !limits::takes_entries(table) {
-        return Checked::Wrong(Refusal::Entry);
-    }
-    Checked::Fine
+    gamut::check_table(table)
 }
 
 // Whether the first n hues are at most 719 and the others zero.
@@ -135,10 +129,17 @@ pub fn check_step(job: Job, length: usize, room: usize) -> Checked
 
 // Whether the light level minus the dark one is not below gap + 1, one f32 sum. With a NaN gap it never is below; whoever asks has
 // refused that gap before.
+pub fn far_enough(gap: f32, dark: u16, light: u16) -> bool
+    ensures { λ r. ⌜ r ≡ farEnough gap dark light ⌝ }
+{
+    let apart = Gamut::l_of(light) - Gamut::l_of(dark);
+    let least = gap + 1.0;
+    !(apart < least)
+}
+
+// Whether a job with these settings searches a pair of levels.
 pub fn qualifies(settings: Settings, dark: u16, light: u16) -> bool
     ensures { λ r. ⌜ r ≡ qualifies settings dark light ⌝ }
 {
-    let apart = Gamut::l_of(light) - Gamut::l_of(dark);
-    let least = settings.gap + 1.0;
-    !(apart < least)
+    far_enough(settings.gap, dark, light)
 }

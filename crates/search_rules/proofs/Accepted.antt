@@ -15,7 +15,7 @@ use Rattle.limits.specs.Answers.{Said, value, refused}
 use Rattle.limits.specs.Taken.{f32Of, gapTaken, entryTaken, every}
 use Rattle.limits.specs.Each.{Each, F32}
 use Rattle.limits.proofs.HueCount.{both, hue-count, count-taken}
-use Rattle.limits.proofs.Checks.{check, AllPass, all-pass, said}
+use Rattle.limits.proofs.Checks.{check, AllPass, all-pass, said, same-value}
 use Rattle.limits.proofs.Lists.{each-true, every-true}
 use Rattle.gamut.specs.Table.{levelsIn, rowAt}
 use Rattle.gamut.proofs.Table.{levelled, table-taken}
@@ -28,13 +28,9 @@ use Rattle.search_rules.specs.Runs.{FarApart}
 use Rattle.search_rules.specs.Accepted.{Accepted, Between, EachTaken, TakenWith, FromForty, StartTaken, FromZero, BeganTaken, Unbroken, StepTaken}
 use Rattle.search_rules.proofs.Apart.{far-apart, qualified}
 use Rattle.search_rules.proofs.Gaps.{start-gap, held-gap}
-use Rattle.search_rules.proofs.Checking.{start-checks, step-checks, step-passed, step-passes}
+use Rattle.search_rules.proofs.Checking.{start-checks, step-checks, step-passed, step-passes, both-rows, goes-on, searched-is}
 use Rattle.search_rules.proofs.Unbroken.{unbroken-exactly}
 use Rattle.search_rules.proofs.Rows.{Good}
-
--- an answer has one job
-pub same-job : (x y : Job) → _≡_ {A = Said Job} (value x) (value y) → x ≡ y
-same-job x y h = cc
 
 -- ---- start
 -- over its test of the gap, and what that asks
@@ -89,7 +85,7 @@ module _ (s : Settings) (t : List Float) where
   -- ---- as document 01 had it
   pub began-leaves : (j : Job) → beganSays s t ≡ value j → BeganTaken s t × (begun s (levelsIn t) ≡ j)
   unfolding beganSays
-  began-leaves j e = let f = taken-only gapHeld FromZero held-gap s t (value (begun s (levelsIn t))) j e in (f .0, same-job (begun s (levelsIn t)) j (f .1))
+  began-leaves j e = let f = taken-only gapHeld FromZero held-gap s t (value (begun s (levelsIn t))) j e in (f .0, same-value (begun s (levelsIn t)) j (f .1))
 
   pub began-given : BeganTaken s t → beganSays s t ≡ value (begun s (levelsIn t))
   unfolding beganSays
@@ -145,14 +141,14 @@ module _ (j : Job) (t : List Float) (room : ℕ) where
       (omega arith, omega arith)
 
   -- what a step says once 15, 14, 6 and 8 are passed, by whether its pair qualifies and whether its two rows are taken
-  abbrev goes-on : Bool → Bool → Said Job
-  goes-on q e = cond q (cond e (value (afterPair j dark light (pairBest j t dark light))) (refused 7)) (value (movedOn j))
+  abbrev on : Bool → Bool → Said Job
+  on q e = goes-on j dark light q e (pairBest j t dark light)
 
-  abbrev both-rows : Bool
-  both-rows = every entryTaken (rowAt t dark) && every entryTaken (rowAt t light)
+  abbrev rows : Bool
+  rows = both-rows t dark light
 
   pub step-only : Accepted (stepSays j t room) → StepTaken j t room
-  unfolding stepSays stepChecked searched
+  unfolding stepSays stepChecked
   step-only a =
       let f = all-pass (step-checks j (length t) room) (searched j t dark light) (a .0) (a .1) in
       let p = step-passed j (length t) room (f .0) in
@@ -163,25 +159,25 @@ module _ (j : Job) (t : List Float) (room : ℕ) where
         unfinished = u;
         whole-levels = p .whole;
         room-enough = one-lap 720 room .0 (p .room-enough);
-        entries = λ (far : FarApart (j .settings .gap) dark light). read (qualified (j .settings) (sound .gap) dark light (inside sound u .0) (inside sound u .1) far) (f .1);
+        entries = λ (far : FarApart (j .settings .gap) dark light). read (qualified (j .settings) (sound .gap) dark light (inside sound u .0) (inside sound u .1) far) (sym (searched-is j t dark light) ∙ f .1);
       }
     where
-      read : qualifies (j .settings) dark light ≡ true → goes-on (qualifies (j .settings) dark light) both-rows ≡ value (a .0) → EachTaken (rowAt t dark) × EachTaken (rowAt t light)
-      read q h = go both-rows refl (subst (λ (b : Bool). goes-on b both-rows ≡ value (a .0)) q h)
+      read : qualifies (j .settings) dark light ≡ true → on (qualifies (j .settings) dark light) rows ≡ value (a .0) → EachTaken (rowAt t dark) × EachTaken (rowAt t light)
+      read q h = go rows refl (subst (λ (b : Bool). on b rows ≡ value (a .0)) q h)
         where
-          go : (b : Bool) → both-rows ≡ b → goes-on true b ≡ value (a .0) → EachTaken (rowAt t dark) × EachTaken (rowAt t light)
+          go : (b : Bool) → rows ≡ b → on true b ≡ value (a .0) → EachTaken (rowAt t dark) × EachTaken (rowAt t light)
           go true e h = let r = both (every entryTaken (rowAt t dark)) (every entryTaken (rowAt t light)) e in (each-true entryTaken (rowAt t dark) (r .0), each-true entryTaken (rowAt t light) (r .1))
           go false e h = absurd (let z : _≡_ {A = ℕ} 0 1 = cc in omega arith)
 
   pub step-given : StepTaken j t room → Accepted (stepSays j t room)
-  unfolding stepSays stepChecked searched
+  unfolding stepSays stepChecked
   step-given h =
-      subst Accepted (sym (said (step-checks j (length t) room) (searched j t dark light) passes)) (go (qualifies (j .settings) dark light) refl)
+      subst Accepted (sym (said (step-checks j (length t) room) (searched j t dark light) passes ∙ searched-is j t dark light)) (go (qualifies (j .settings) dark light) refl)
     where
       passes : AllPass (step-checks j (length t) room)
       passes = step-passes j (length t) room (record { sound = unbroken-exactly j .1 (h .unbroken); unfinished = h .unfinished; whole = h .whole-levels; room-enough = one-lap 720 room .1 (h .room-enough) })
 
-      go : (q : Bool) → qualifies (j .settings) dark light ≡ q → Accepted (goes-on q both-rows)
+      go : (q : Bool) → qualifies (j .settings) dark light ≡ q → Accepted (on q rows)
       go false e = (_, refl)
       go true e =
           let sound = h .unbroken in

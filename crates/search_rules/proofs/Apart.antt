@@ -3,10 +3,10 @@ use mathlib.Core.Path.{_≡_, refl, sym, ap, _∙_, subst}
 use mathlib.Core.Logic.{inl, inr}
 use mathlib.Core.Bool.{Bool, true, false, not, true≢false}
 use Prim.Native.Nat.{ℕ, _+_, _-_, _*_, _^_, _≤_, _<_}
-use native.Mathlib.Nat.{le-trans, le-of-eq, lt-of-lt-of-le, mul-assoc, mul-comm, mul-one, mul-right-comm, add-mul, mul-sub, mul-pos, mul-lt-mul-of-pos-right}
+use native.Mathlib.Nat.{le-trans, le-of-eq, lt-of-lt-of-le, mul-assoc, mul-comm, mul-one, mul-right-comm, add-mul, mul-pos, mul-lt-mul-of-pos-right}
 use native.Mathlib.Omega.{arith}
 use lib.Dec.{ltb}
-use lib.Pow.{pow-add, pow-pos, pow-mono}
+use lib.Pow.{pow-add, pow-pos}
 use lib.Ieee.{Float, nan, inf, fin, binary32, up, down, round, sum, add, sub, neg, mul, lt, ofInt}
 use lib.Ieee.Back.{round-whole}
 use lib.Ieee.Exact.{HasValue, round-exact}
@@ -14,23 +14,20 @@ use lib.Ieee.Fits.{down-pos}
 use lib.Ieee.Scale.{round-same}
 use borrow.Author.Tests.{ltb-false, lt-ltb, le-ltb, not-true}
 use Rattle.limits.specs.Taken.{f32Of, gapTaken}
-use Rattle.halving.proofs.Least.{below-or-not}
+use Rattle.limits.proofs.Numbers.{below-or-not, power, minus}
 use Rattle.halving.proofs.Lower.{sub-values}
 use Rattle.halving.proofs.Midway.{revalue, add-values}
 use Rattle.halving.proofs.Plain.{compared}
 use Rattle.halving.proofs.Range.{UpTo, taken-up-to, sum-up-to}
 use Rattle.gamut.specs.Gamut.{levelOf}
 use Rattle.search_rules.specs.declared.Settings.{Settings}
-use Rattle.search_rules.specs.Job.{gapHeld, qualifies}
+use Rattle.search_rules.specs.Job.{gapHeld, farEnough, qualifies}
 use Rattle.search_rules.specs.Runs.{FarApart}
 
 -- ---- halves
 -- a / 2 is an f32 for an a below 2 ^ 24
 half : (s : Bool) (a : ℕ) → a < 16777216 → HasValue (round binary32 s a 2) s a 2
 half s a h = round-exact binary32 s a 2 a 148 (omega arith) h (lt-of-lt-of-le (mul-lt-mul-of-pos-right h (pow-pos 148)) (le-trans (le-of-eq (sym (pow-add 2 24 148))) (power 172 277 (omega arith)))) (ap (λ (x : ℕ). a * x) (pow-add 2 148 1) ∙ sym (mul-assoc a (2 ^ 148) 2))
-  where
-    power : (i j : ℕ) → i ≤ j → 2 ^ i ≤ 2 ^ j
-    power i j h = pow-mono h
 
 whole-half : (x : Float) (i : ℕ) → HasValue x false i 1 → HasValue x false (i * 2) 2
 whole-half x i v = revalue x i 1 (i * 2) 2 (omega arith) (sym (mul-one (i * 2))) v
@@ -82,9 +79,6 @@ subtracted-from-less (fin false m e) (fin false n d) a b v w h =
     off : (p q x y : ℕ) → p * 2 ≡ x → q * 2 ≡ y → (p - q) * 2 ≡ x - y
     off p q x y f g = omega arith
 
-    minus : (x y c : ℕ) → (x - y) * c ≡ x * c - y * c
-    minus x y c = mul-comm (x - y) c ∙ mul-sub c x y ∙ ap (λ (z : ℕ). z - c * y) (mul-comm c x) ∙ ap (λ (z : ℕ). x * c - z) (mul-comm c y)
-
 -- a number below 0 is below one that is not
 negative-below : (x y : Float) (a b c : ℕ) → HasValue x true a 2 → 0 < a → HasValue y false b c → lt x y ≡ true
 unfolding lt
@@ -110,16 +104,16 @@ own (inf s) b u = absurd u
 own (fin true m e) b u = absurd u
 own (fin false m e) b u = (m * up e, (down e, (down-pos e, (refl, refl))))
 
-module _ (s : Settings) (held : gapHeld (s .gap) ≡ true) (d l : ℕ) (D : d < 169) (L : l < 169) where
+module _ (gap : Float) (held : gapTaken gap ≡ true) (d l : ℕ) (D : d < 169) (L : l < 169) where
   abbrev total : Float
-  total = add binary32 (s .gap) (f32Of 1)
+  total = add binary32 gap (f32Of 1)
 
   abbrev apart : Float
   apart = sub binary32 (levelOf l) (levelOf d)
 
   pub total-value : (a : ℕ) × ((c : ℕ) × ((0 < c) × HasValue total false a c))
   unfolding gapTaken ofInt
-  total-value = own total 168 (sum-up-to 84 (s .gap) (f32Of 1) (omega arith) (taken-up-to 84 (s .gap) (omega arith) held) (omega arith))
+  total-value = own total 168 (sum-up-to 84 gap (f32Of 1) (omega arith) (taken-up-to 84 gap (omega arith) held) (omega arith))
 
   difference : (b : ℕ) → b ≡ l - d → d ≤ l → HasValue apart false b 2
   difference b e h =
@@ -142,9 +136,9 @@ module _ (s : Settings) (held : gapHeld (s .gap) ≡ true) (d l : ℕ) (D : d < 
   split : (c : ℕ) → d ≤ l → (24 + l) * c ≡ (24 + d) * c + (l - d) * c
   split c h = let e : 24 + l ≡ (24 + d) + (l - d) = omega arith in ap (λ (z : ℕ). z * c) e ∙ add-mul (24 + d) (l - d) c
 
-  pub far-apart : qualifies s d l ≡ true → FarApart (s .gap) d l
-  unfolding qualifies
-  far-apart q a c C v = elim (below-or-not l d) [ inl h ↦ absurd (true≢false (sym (reversed h) ∙ not-true (lt apart total) q)) | inr h ↦ there h ]
+  pub apart-enough : farEnough gap d l ≡ true → FarApart gap d l
+  unfolding farEnough
+  apart-enough q a c C v = elim (below-or-not l d) [ inl h ↦ absurd (true≢false (sym (reversed h) ∙ not-true (lt apart total) q)) | inr h ↦ there h ]
     where
       there : d ≤ l → (24 + d) * c + a * 2 ≤ (24 + l) * c
       there h =
@@ -152,9 +146,9 @@ module _ (s : Settings) (held : gapHeld (s .gap) ≡ true) (d l : ℕ) (D : d < 
           let e = split c h in
           omega arith
 
-  pub qualified : FarApart (s .gap) d l → qualifies s d l ≡ true
-  unfolding qualifies
-  qualified f =
+  pub enough : FarApart gap d l → farEnough gap d l ≡ true
+  unfolding farEnough
+  enough f =
       let t = total-value in
       let a = t .0 in
       let c = t .1 .0 in
@@ -171,3 +165,13 @@ module _ (s : Settings) (held : gapHeld (s .gap) ≡ true) (d l : ℕ) (D : d < 
       there a c C v f h =
           let e = split c h in
           ap not (tested a c C v h ∙ le-ltb ((l - d) * c) (a * 2) (omega arith))
+
+-- ---- the pairs that a job searches
+module _ (s : Settings) (held : gapHeld (s .gap) ≡ true) (d l : ℕ) (D : d < 169) (L : l < 169) where
+  pub far-apart : qualifies s d l ≡ true → FarApart (s .gap) d l
+  unfolding qualifies
+  far-apart q = apart-enough (s .gap) held d l D L q
+
+  pub qualified : FarApart (s .gap) d l → qualifies s d l ≡ true
+  unfolding qualifies
+  qualified f = enough (s .gap) held d l D L f

@@ -5,7 +5,7 @@ use mathlib.Core.List.{List}
 use Prim.Native.Nat.{ℕ, suc, _+_, _*_, _/_, _%_, _≤_, _<_}
 use native.Mathlib.Omega.{arith}
 use lib.Ieee.{Float}
-use Rattle.halving.proofs.Least.{below-or-not}
+use Rattle.limits.proofs.Numbers.{below-or-not}
 use Rattle.gamut.specs.Table.{levelsIn}
 use Rattle.search_rules.specs.declared.Settings.{Settings}
 use Rattle.search_rules.specs.Runs.{Choice}

@@ -23,7 +23,7 @@ use Rattle.placement_rules.specs.Placing.{stepFor, workNeeded}
 use Rattle.pair_rules.proofs.Evenly.{evenly, some-hues}
 use Rattle.search_rules.specs.declared.Settings.{Settings}
 use Rattle.search_rules.specs.declared.Job.{Job}
-use Rattle.search_rules.specs.Job.{qualifies}
+use Rattle.search_rules.specs.Job.{farEnough, qualifies}
 use Rattle.search_rules.specs.Runs.{Call, start, began, since, history, OverOneTable, Choice, steps}
 use Rattle.search_rules.specs.Accepted.{Between, EachTaken, TakenWith, FromForty, FromZero}
 use Rattle.search_rules.proofs.Apart.{far-apart}
@@ -37,8 +37,12 @@ room : workNeeded 720 ≤ length work
 room = subst (λ (n : ℕ). workNeeded 720 ≤ n) (sym (length-replicate (workNeeded 720) 0)) (omega arith)
 
 -- this call, with so many steps behind it: all are accepted
+abbrev AllIn : Settings → List Float → Call → ℕ → Job → Type 0
+AllIn s t c n j = (history (c ∷ steps n t work) j ≡ since s n) × OverOneTable t (c ∷ steps n t work) j
+
+-- what `whole-runs` asks of such a list, over a table of f32
 abbrev pub Met : Settings → List Float → Call → ℕ → Job → Type 0
-Met s t c n j = (history (c ∷ steps n t work) j ≡ since s n) × OverOneTable t (c ∷ steps n t work) j
+Met s t c n j = Each F32 t × AllIn s t c n j
 
 -- ---- a row that is taken, repeated
 module _ (row : List Float) (long : length row ≡ 720) (taken : EachTaken row) (f32 : Each F32 row) (n : ℕ) (some : 1 ≤ n) (few : n ≤ 169) where
@@ -59,10 +63,10 @@ module _ (row : List Float) (long : length row ≡ 720) (taken : EachTaken row) 
 
     -- n levels have n * n pairs, and all steps are accepted
     pub any-levels : FromForty (s .gap) → (j : Job) → Met s table (start s table) (n * n) j
-    any-levels gap j = subst (λ (m : ℕ). Met s table (start s table) (m * m) j) (stacked-levels row long n) (all-accepted table good work room s (asked FromForty gap) j)
+    any-levels gap j = (good .entries-f32, subst (λ (m : ℕ). AllIn s table (start s table) (m * m) j) (stacked-levels row long n) (all-accepted table good work room s (asked FromForty gap) j))
 
     pub any-kept : FromZero (s .gap) → (j : Job) → Met s table (began s table) (n * n) j
-    any-kept gap j = subst (λ (m : ℕ). Met s table (began s table) (m * m) j) (stacked-levels row long n) (all-kept table good work room s (asked FromZero gap) j)
+    any-kept gap j = (good .entries-f32, subst (λ (m : ℕ). AllIn s table (began s table) (m * m) j) (stacked-levels row long n) (all-kept table good work room s (asked FromZero gap) j))
 
 -- ---- two hues, levels of 50
 abbrev pub two-hues : Float → Settings
@@ -112,9 +116,9 @@ there gap n held some few far =
     }
 
 pub kept-choice : Choice (levels-of-50 3) (two-hues (f32Of 0)) 9
-unfolding gapTaken upTo signClear signBit isNan lt ofInt qualifies levelOf sub add mul round
+unfolding gapTaken upTo signClear signBit isNan lt ofInt qualifies farEnough levelOf sub add mul round
 kept-choice = there (f32Of 0) 2 refl (omega arith) (omega arith) refl
 
 pub new-choice : Choice (levels-of-50 83) (two-hues (f32Of 40)) 6889
-unfolding gapTaken upTo signClear signBit isNan lt ofInt qualifies levelOf sub add mul round
+unfolding gapTaken upTo signClear signBit isNan lt ofInt qualifies farEnough levelOf sub add mul round
 new-choice = there (f32Of 40) 82 refl (omega arith) (omega arith) refl

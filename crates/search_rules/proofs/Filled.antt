@@ -23,6 +23,7 @@ use Rattle.search_rules.specs.declared.Job.{Job}
 use Rattle.search_rules.specs.Job.{gapHeld, bestHeld, handed, huesHeld, tightestHeld, unbroken, qualifies, beats, movedOn, replaced, afterPair, pairBest, searched, stepChecked, stepSays, jobAfter}
 use Rattle.search_rules.specs.Runs.{Call, start, began, step, given, run, History, unstarted, since, noted, historyFrom, history, OverOneTable, Promise}
 use Rattle.search_rules.specs.Filled.{gapOf, withTightest, filledIn}
+use Rattle.search_rules.proofs.Checking.{both-rows, goes-on, searched-is}
 use Rattle.search_rules.proofs.Runs.{whole-runs}
 
 -- ---- filled in
@@ -68,11 +69,10 @@ module _ (j : Job) (x : ℕ) (held : TakenAlike j x) where
       go false new = (x, (refl, held))
 
   gone-through : (t : List Float) (d l : ℕ) → Alike (searched (withTightest j x) t d l) (searched j t d l)
-  unfolding searched pairBest
-  gone-through t d l = go (qualifies (j .settings) d l) (every entryTaken (rowAt t d) && every entryTaken (rowAt t l)) (pairBest j t d l)
+  unfolding pairBest
+  gone-through t d l = rw (searched-is (withTightest j x) t d l, searched-is j t d l) (go (qualifies (j .settings) d l) (both-rows t d l) (pairBest j t d l))
     where
-      go : (q e : Bool) (best : pair.Best)
-          → Alike (cond q (cond e (value (afterPair (withTightest j x) d l best)) (refused 7)) (value (movedOn (withTightest j x)))) (cond q (cond e (value (afterPair j d l best)) (refused 7)) (value (movedOn j)))
+      go : (q e : Bool) (best : pair.Best) → Alike (goes-on (withTightest j x) d l q e best) (goes-on j d l q e best)
       go true true best = after-pair d l best
       go true false best = refl
       go false e best = (x, (refl, held))

@@ -1,4 +1,4 @@
--- Number 2 of a start, Req 05: a gap that document 01 takes is not below 40 exactly where it is at least 40 (`from-40`), so `gapStarts` is that in so many words (`start-gap`).
+-- Number 2 of a start, Req 05: a gap that document 01 takes is not below 40 exactly where it is at least 40 (`from-40`), so `gapStarts` says just that (`start-gap`).
 -- The pairs of levels that are far apart by such a gap lie at least 82 indices apart (`new-pairs`), so a new job has a choice only over 83 levels or more (`fewest-levels`).
 -- Assumes nothing.
 use mathlib.Core.Path.{_≡_, sym, ap, _∙_, subst}
@@ -17,7 +17,7 @@ use borrow.Author.Tests.{leb-true, lt-ltb, le-ltb, le-leb, lt-leb}
 use Rattle.limits.specs.Taken.{f32Of, gapTaken}
 use Rattle.limits.proofs.HueCount.{both}
 use Rattle.limits.proofs.Tests.{joined}
-use Rattle.halving.proofs.Least.{below-or-not}
+use Rattle.limits.proofs.Numbers.{below-or-not}
 use Rattle.halving.proofs.Midway.{revalue, add-values}
 use Rattle.halving.proofs.Plain.{compared}
 use Rattle.halving.proofs.Range.{taken-up-to}
@@ -55,7 +55,7 @@ module _ (gap : Float) where
   pub start-gap : (gapStarts gap ≡ true) ↔ FromForty gap
   unfolding gapStarts
   start-gap = (
-    λ (h : (gapTaken gap && not (lt gap (f32Of 40))) ≡ true). let t = both (gapTaken gap) (not (lt gap (f32Of 40))) h in (t .0, sym (from-40 (t .0)) ∙ t .1),
+    λ h. let t = both (gapTaken gap) (not (lt gap (f32Of 40))) h in (t .0, sym (from-40 (t .0)) ∙ t .1),
     λ (h : FromForty gap). joined (gapTaken gap) (not (lt gap (f32Of 40))) (h .0) (from-40 (h .0) ∙ h .1),
   )
 
@@ -72,7 +72,7 @@ module _ (gap : Float) where
       let C = v .1 .1 .0 in
       let from : 40 * c ≤ a * 1 = leb-true (40 * c) (a * 1) (sym (compared (f32Of 40) gap 40 1 a c (omega arith) C (whole 40 (omega arith)) (v .1 .1 .1) .1) ∙ h .1) in
       let one : HasValue (f32Of 1) false c c = revalue (f32Of 1) 1 1 c c (omega arith) (omega arith) (whole 1 (omega arith)) in
-      let w = total-value (record { k = 1; gap = gap }) (h .0) 0 0 (omega arith) (omega arith) in
+      let w = total-value gap (h .0) 0 0 (omega arith) (omega arith) in
       let a' = w .0 in
       let c' = w .1 .0 in
       let up = subst (λ (x : Float). T (le (round binary32 false 41 1) x)) (sym (add-values gap (f32Of 1) a c c C (v .1 .1 .1) one)) (round-mono binary32 41 1 (a + c) c (omega arith) C (omega arith)) in

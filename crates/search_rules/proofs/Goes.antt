@@ -34,7 +34,7 @@ use Rattle.search_rules.specs.declared.Job.{Job}
 use Rattle.search_rules.specs.Job.{begun, bestHeld, handed, huesHeld, tightestHeld, unbroken, qualifies, floorOf, beats, movedOn, replaced, afterPair, pairBest, searched, stepChecked, stepSays, jobAfter, stepsFrom, searchSays}
 use Rattle.search_rules.specs.Runs.{Call, start, began, step, tableOf, given, run, History, unstarted, since, noted, historyFrom, history, OverOneTable, Lent, steps, wholeSearch}
 use Rattle.search_rules.specs.Accepted.{StartTaken, BeganTaken, AllAccepted}
-use Rattle.search_rules.proofs.Checking.{step-checks, step-passes}
+use Rattle.search_rules.proofs.Checking.{step-checks, step-passes, searched-is, leaves}
 use Rattle.search_rules.proofs.Unbroken.{sound, unbroken-by, best-back, gap-back}
 use Rattle.search_rules.proofs.Floor.{BestF32, floor-f32, floor-from, floor-taken, chroma-plain, thirty-five, at-most-200}
 use Rattle.search_rules.proofs.Rows.{Good, shape, long, rows-f32, pair-says}
@@ -164,9 +164,9 @@ module _ (t : List Float) (good : Good t) (j : Job) (u : unbroken j ≡ true) (u
     either false = on
 
   pub step-goes : (room : ℕ) → workNeeded 720 ≤ room → (j' : Job) × ((stepSays j t room ≡ value j') × Went t j d l j')
-  unfolding stepSays stepChecked searched
+  unfolding stepSays stepChecked
   step-goes room r =
-      subst (λ (said : Said Job). (j' : Job) × ((said ≡ value j') × Went t j d l j')) (sym (said (step-checks j (length t) room) (searched j t d l) passes))
+      subst (λ (said : Said Job). (j' : Job) × ((said ≡ value j') × Went t j d l j')) (sym (said (step-checks j (length t) room) (searched j t d l) passes ∙ searched-is j t d l))
       (rw (row-taken t d (good .entries-taken), row-taken t l (good .entries-taken)) (go (qualifies (j .settings) d l) (pairBest j t d l) refl))
     where
       passes : AllPass (step-checks j (length t) room)
@@ -226,7 +226,7 @@ module _ (t : List Float) (good : Good t) (work : List ℕ) (room : workNeeded 7
       let room' : j' .position + n ≤ j' .levels * j' .levels = subst (λ (x : ℕ). j' .position + n ≤ x * x) (sym a) (omega arith) in
       let r = steps-go n j' (w .still-unbroken) (a ∙ e) (w .best-f32) room' in
       let p = r .position-on in
-      let k : jobAfter j (stepSays j t (length work)) ≡ j' = ap (jobAfter j) (g .1 .0) in
+      let k : jobAfter j (stepSays j t (length work)) ≡ j' = leaves j j' (stepSays j t (length work)) (g .1 .0) in
       record {
         accepted = ((j', g .1 .0), subst (AllAccepted (steps n t work)) (sym k) (r .accepted));
         settings-kept = ap (λ (x : Job). run (steps n t work) x .settings) k ∙ r .settings-kept ∙ w .same-settings;

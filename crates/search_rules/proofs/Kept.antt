@@ -13,7 +13,7 @@ use Rattle.limits.specs.Taken.{f32Of, hueCountTaken, entryTaken, every}
 use Rattle.limits.specs.Each.{Each, F32}
 use Rattle.limits.proofs.Floats.{never}
 use Rattle.limits.proofs.HueCount.{hue-count, count-taken}
-use Rattle.limits.proofs.Checks.{all-pass}
+use Rattle.limits.proofs.Checks.{all-pass, same-value}
 use Rattle.halving.specs.Patterns.{next}
 use Rattle.halving.proofs.Plain.{Plain, le-through, not-le-lt, lt-then-le, not-lt-le, le-not-lt, next-plain, next-above, next-le}
 use Rattle.gamut.specs.Table.{levelsIn, rowAt}
@@ -31,12 +31,12 @@ use Rattle.search_rules.specs.declared.Job.{Job}
 use Rattle.search_rules.specs.Job.{gapHeld, bestHeld, unbroken, qualifies, floorOf, beats, movedOn, replaced, afterPair, pairBest, searched, stepChecked, stepSays, beganSays}
 use Rattle.search_rules.specs.Runs.{Choice, commonOf, Promise}
 use Rattle.search_rules.proofs.Apart.{far-apart, qualified}
-use Rattle.search_rules.proofs.Checking.{step-checks, step-passed}
+use Rattle.search_rules.proofs.Checking.{step-checks, step-passed, both-rows, goes-on, searched-is}
 use Rattle.search_rules.proofs.Unbroken.{sound}
 use Rattle.search_rules.proofs.Floor.{BestF32, floor-f32, floor-from, floor-taken, chroma-plain, thirty-five, held-chroma}
 use Rattle.search_rules.proofs.Rows.{Good, shape, rows-f32, round-the-row, round-the-circle, choice-plain, pair-says}
 use Rattle.search_rules.proofs.Choices.{later, by-place}
-use Rattle.search_rules.proofs.Accepted.{same-job, began-leaves, good-table}
+use Rattle.search_rules.proofs.Accepted.{began-leaves, good-table}
 
 -- ---- the promise over one accepted step
 -- the promise with what it needs to go on: a table that is taken, and a chroma that is an f32
@@ -301,16 +301,15 @@ module _ (t : List Float) (j : Job) (kept : Kept t (j .settings) (j .position) j
 
   -- whichever of these it is
   went : (j' : Job) → searched j t dark₀ light₀ ≡ value j' → After j'
-  unfolding searched
-  went j' h = go (qualifies s dark₀ light₀) refl (every entryTaken (rowAt t dark₀) && every entryTaken (rowAt t light₀)) (pairBest j t dark₀ light₀) refl h
+  went j' h = go (qualifies s dark₀ light₀) refl (both-rows t dark₀ light₀) (pairBest j t dark₀ light₀) refl (sym (searched-is j t dark₀ light₀) ∙ h)
     where
       go : (q : Bool) → qualifies s dark₀ light₀ ≡ q → (e : Bool) (best : pair.Best) → pairBest j t dark₀ light₀ ≡ best
-          → cond q (cond e (value (afterPair j dark₀ light₀ best)) (refused 7)) (value (movedOn j)) ≡ value j' → After j'
-      go false q e best b h = subst After (same-job (movedOn j) j' h) (passed-over q)
+          → goes-on j dark₀ light₀ q e best ≡ value j' → After j'
+      go false q e best b h = subst After (same-value (movedOn j) j' h) (passed-over q)
       go true q false best b h = absurd (let z : _≡_ {A = ℕ} 0 1 = cc in omega arith)
-      go true q true none b h = subst After (same-job (movedOn j) j' h) (none-there b)
+      go true q true none b h = subst After (same-value (movedOn j) j' h) (none-there b)
       go true q true (found c' hues) b h =
-          subst After (same-job (cond (beats c' (j .best)) (replaced j c' dark₀ light₀ hues (tightest 720 (take (s .k) hues))) (movedOn j)) j' h) (found-there q c' hues b (beats c' (j .best)) refl)
+          subst After (same-value (cond (beats c' (j .best)) (replaced j c' dark₀ light₀ hues (tightest 720 (take (s .k) hues))) (movedOn j)) j' h) (found-there q c' hues b (beats c' (j .best)) refl)
 
 pub step-kept : (t : List Float) (s : Settings) (n : ℕ) (j j' : Job) (room : ℕ) → Kept t s n j → stepSays j t room ≡ value j' → Kept t s (suc n) j'
 unfolding stepSays stepChecked

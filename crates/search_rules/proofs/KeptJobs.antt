@@ -13,6 +13,7 @@ use lib.ListN.{length}
 use borrow.Author.Tests.{le-ltb}
 use Rattle.limits.specs.Answers.{Said, value, refused}
 use Rattle.limits.specs.Each.{Each, F32}
+use Rattle.limits.proofs.Checks.{same-value}
 use Rattle.gamut.specs.Table.{levelsIn}
 use Rattle.gamut.proofs.Table.{levels-by}
 use Rattle.placement_rules.proofs.Room.{one-lap}
@@ -26,7 +27,7 @@ use Rattle.search_rules.proofs.Floor.{BestF32}
 use Rattle.search_rules.proofs.Rows.{Good}
 use Rattle.search_rules.proofs.Kept.{Kept, began-kept, step-kept}
 use Rattle.search_rules.proofs.Runs.{after-calls, whole-runs}
-use Rattle.search_rules.proofs.Accepted.{same-job, began-leaves, began-given, good-table, step-only}
+use Rattle.search_rules.proofs.Accepted.{began-leaves, began-given, good-table, step-only}
 use Rattle.search_rules.proofs.Goes.{step-goes, steps-lent, steps-count, steps-go, begun-unbroken}
 
 -- ---- the promise
@@ -115,7 +116,7 @@ module _ (t : List Float) (f32 : Each F32 t) where
   stepped s n j j' room (kept, u) e =
       let asked = step-only j t room (j', e) in
       let g = step-goes t (kept .good) j u (asked .unfinished) (kept .promise .levels-are) (kept .chroma-f32) room (one-lap 720 room .1 (asked .room-enough)) in
-      (step-kept t s n j j' room kept e, subst (λ (x : Job). unbroken x ≡ true) (same-job (g .0) j' (sym (g .1 .0) ∙ e)) (g .1 .1 .still-unbroken))
+      (step-kept t s n j j' room kept e, subst (λ (x : Job). unbroken x ≡ true) (same-value (g .0) j' (sym (g .1 .0) ∙ e)) (g .1 .1 .still-unbroken))
 
   -- the job after it runs to its end, and the list with those steps behind it is one in which every pair was gone through
   pub finishes : (calls : List Call) (j : Job) → OverOneTable t calls j → (s : Settings) (n : ℕ) → history calls j ≡ since s n → (work : List ℕ) → 720 ≤ length work

@@ -26,7 +26,7 @@ use Rattle.search_rules.specs.Runs.{Call, run, since, history, OverOneTa
 use Rattle.search_rules.specs.Accepted.{Accepted, StartTaken}
 use Rattle.search_rules.specs.Loops.{Solution, unsolved, improved, tried, loop, overLight, twoLoops}
 use Rattle.search_rules.specs.Filled.{gapOf}
-use Rattle.search_rules.proofs.Checking.{step-checks}
+use Rattle.search_rules.proofs.Checking.{step-checks, both-rows, goes-on, searched-is}
 use Rattle.search_rules.proofs.Positions.{last-turn, at, rows}
 use Rattle.search_rules.proofs.Runs.{after-calls}
 use Rattle.search_rules.proofs.Accepted.{began-leaves, search-only, good-table}
@@ -54,11 +54,11 @@ module _ (s : Settings) (t : List Float) (m p : ℕ) (so : Solution) where
 
   -- an accepted step tries its pair, whatever the record and the table
   pub step-tries : (room : ℕ) (j' : Job) → stepSays j t room ≡ value j' → j' ≡ jobOf s m (p + 1) (tried s t d l so)
-  unfolding stepSays stepChecked searched tried pairBest
+  unfolding stepSays stepChecked tried pairBest
   step-tries room j' h =
-      go (qualifies s d l) (every entryTaken (rowAt t d) && every entryTaken (rowAt t l)) (pairBest j t d l) (all-pass (step-checks j (length t) room) (searched j t d l) j' h .1)
+      go (qualifies s d l) (both-rows t d l) (pairBest j t d l) (sym (searched-is j t d l) ∙ all-pass (step-checks j (length t) room) (searched j t d l) j' h .1)
     where
-      go : (q e : Bool) (best : pair.Best) → cond q (cond e (value (afterPair j d l best)) (refused 7)) (value (movedOn j)) ≡ value j' → j' ≡ jobOf s m (p + 1) (cond q (improved so d l best) so)
+      go : (q e : Bool) (best : pair.Best) → goes-on j d l q e best ≡ value j' → j' ≡ jobOf s m (p + 1) (cond q (improved so d l best) so)
       go false e best h = sym (ap (jobAfter j) h)
       go true false best h = differ 7 j' h
       go true true none h = sym (ap (jobAfter j) h)

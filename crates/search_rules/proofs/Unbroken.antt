@@ -74,7 +74,7 @@ unbroken-by j s =
 pub square : (n : ℕ) → n ≤ 169 → n * n ≤ 28561
 square n h = mul-le-mul h h
 
--- ---- the hues, the best so far and the smallest gap, by their tests and in so many words
+-- ---- the hues, the best so far and the smallest gap, by their tests and written out
 hues-in : (n : ℕ) (hs : List ℕ) → huesHeld n hs ≡ true → (p : ℕ) → p < length hs → (p < n → getD hs p 0 ≤ 719) × (n ≤ p → getD hs p 0 ≡ 0)
 unfolding huesHeld
 hues-in n [] h p l = absurd (not-suc-le-zero l)
@@ -125,7 +125,7 @@ pub gap-back : (b : Best) (t : ℕ) → TightestWithin b t → tightestHeld b t 
 gap-back None t h = eq-eqb t 0 h
 gap-back (Found c d l) t h = joined (leb 1 t) (leb t 720) (le-leb 1 t (h .0)) (le-leb t 720 (h .1))
 
--- ---- in so many words
+-- ---- written out
 module _ (j : Job) where
   abbrev k : ℕ
   k = j .settings .k

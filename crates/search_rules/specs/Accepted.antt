@@ -1,4 +1,4 @@
--- When a call is accepted, by document 01's conditions in so many words, for number 8 by Req 04's, and for number 2 of a start by Req 05's: for a start numbers 1, 2, 6, 7, for
+-- When a call is accepted, by document 01's conditions written out, for number 8 by Req 04's, and for number 2 of a start by Req 05's: for a start numbers 1, 2, 6, 7, for
 -- a step numbers 15, 14, 6, 8, 7. Beside it stands document 01's start, which took smaller gaps.
 -- Definitions only.
 use mathlib.Core.Path.{_≡_}

@@ -11,7 +11,7 @@ use Rattle.limits.specs.Answers.{Said, value, refused}
 use Rattle.limits.specs.Refusals.{number}
 use Rattle.limits.specs.Taken.{f32Of, hueCountTaken, gapTaken, entryTaken, every}
 use Rattle.gamut.specs.Gamut.{levelOf}
-use Rattle.gamut.specs.Table.{levelsIn, rowAt, tableTaken}
+use Rattle.gamut.specs.Table.{levelsIn, rowAt, tableChecked}
 use Rattle.placement_rules.specs.Placing.{stepFor, workNeeded}
 use Rattle.placement_rules.specs.Gaps.{tightest}
 use Rattle.pair_rules.specs.Rows.{leastRow}
@@ -42,9 +42,7 @@ begun s levels = record { settings = s; levels = levels; position = 0; best = No
 unfoldable pub startCheckedBy : {A : Type 0} → (Float → Bool) → Settings → List Float → Said A → Said A
 startCheckedBy gaps s table good =
     cond (hueCountTaken (s .k))
-    (cond (gaps (s .gap))
-    (cond (tableTaken table)
-    (cond (every entryTaken table) good (refused 7)) (refused 6)) (refused 2)) (refused 1)
+    (cond (gaps (s .gap)) (tableChecked table good) (refused 2)) (refused 1)
 
 abbrev pub startChecked : {A : Type 0} → Settings → List Float → Said A → Said A
 startChecked s table good = startCheckedBy gapStarts s table good
@@ -97,9 +95,13 @@ darkAt levels p = p / levels
 abbrev pub lightAt : ℕ → ℕ → ℕ
 lightAt levels p = p % levels
 
--- the pair is searched unless "the light level minus the dark level (levels, not indices) is below gap + 1 (one f32 sum)"
+-- whether two levels are far enough apart: not so where "the light level minus the dark level (levels, not indices) is below gap + 1 (one f32 sum)"
+unfoldable pub farEnough : Float → ℕ → ℕ → Bool
+farEnough gap d l = not (lt (sub binary32 (levelOf l) (levelOf d)) (add binary32 gap (f32Of 1)))
+
+-- the pairs that are searched; for any other "only the position moves on"
 unfoldable pub qualifies : Settings → ℕ → ℕ → Bool
-qualifies s d l = not (lt (sub binary32 (levelOf l) (levelOf d)) (add binary32 (s .gap) (f32Of 1)))
+qualifies s d l = farEnough (s .gap) d l
 
 -- "floor 35 or the best chroma"
 abbrev pub floorOf : Best → Float

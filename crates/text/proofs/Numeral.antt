@@ -70,7 +70,7 @@ pub numeral-most : (n : ℕ) → length (numeral n) ≤ 30
 unfolding numeral
 numeral-most n = let i = most 30 (ltb n 10) n [] in omega arith
 
--- ---- one digit more, and the last: what a writer from the right goes by
+-- ---- one digit more, and the last: for a writer from the right
 pub digits-more : (m n : ℕ) (so : List ℕ) → 10 ≤ n → digitsBefore m (ltb (n / 10) 10) (n / 10) ((48 + n % 10) ∷ so) ≡ digitsBefore (suc m) (ltb n 10) n so
 unfolding digitsBefore
 digits-more m n so h = rw (le-ltb n 10 h)

@@ -9,7 +9,7 @@ use lib.Dec.{T}
 use lib.Ieee.{Float, le}
 use lib.Ieee.Bits.{is-true}
 use lib.Ieee.Positive.{positive}
-use Rattle.halving.proofs.Least.{below-or-not}
+use Rattle.limits.proofs.Numbers.{below-or-not}
 use Rattle.transfer.specs.Transfer.{thresholdOf, countTo, encodeOf}
 use Rattle.transfer.proofs.Rules.{thresholdPattern}
 use Rattle.halving.proofs.Order.{holds-true, pattern-positive, pattern-le, onward}

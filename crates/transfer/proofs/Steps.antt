@@ -8,7 +8,7 @@ use native.Mathlib.Omega.{arith}
 use lib.Dec.{T, leb, ltb, leb→le, ltb→lt}
 use lib.Ieee.Fits.{and-l, and-r}
 use Rattle.halving.specs.Patterns.{worth, least, halfWay}
-use Rattle.halving.proofs.Least.{below-or-not}
+use Rattle.limits.proofs.Numbers.{below-or-not}
 use Rattle.transfer.specs.Transfer.{meets}
 use Rattle.transfer.proofs.Table.{throughout, each}
 use Rattle.transfer.proofs.Rules.{decodePattern, thresholdPattern}

@@ -32,8 +32,8 @@ gap-given old e = ap (λ s. searchGap s old) e
 gap-left : {n : ℕ} {s : Said Job} (old : List ℕ) → refused n ≡ s → old ≡ searchGap s old
 gap-left old e = ap (λ s. searchGap s old) e
 
-blank-requires : tie.Need-blank-requires
-blank-requires c κs = search needs
+begin-requires : tie.Need-begin-requires
+begin-requires c κs = search needs
 
 search-requires : tie.Need-search-requires
 search-requires c κs = search needs
@@ -87,7 +87,7 @@ pub tengcuvo-search-spec : {M : Type 1} → statement M
 tengcuvo-search-spec =
     tie.close
     (tie.spec
-    blank-requires
+    begin-requires
     search-requires
     enum-known-answer
     number-requires

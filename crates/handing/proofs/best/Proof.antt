@@ -21,10 +21,10 @@ returns : tie.Need-returns
 returns c =
     let call = c .before .before .before .before .before .before .before .best-for-levels in
     let chosen = call .ensures in
-    let same = hands-same _ _ (chosen .0 .0) in
+    let same = hands-same _ _ (chosen .0 .says) in
     let given = c .hand .ensures in
-    let gap = c .before .before .before .hand-gap .ensures ∙ gap-same _ (chosen .0 .0) (chosen .1 .0) in
-    ((given .0 ∙ same .0, (given .1 .0 ∙ same .1 .0, given .1 .1 ∙ same .1 .1)), (gap, chosen .1 .1))
+    let gap = c .before .before .before .hand-gap .ensures ∙ gap-same _ (chosen .0 .says) (chosen .0 .tightest-is) in
+    ((given .0 ∙ same .0, (given .1 .0 ∙ same .1 .0, given .1 .1 ∙ same .1 .1)), (gap, chosen .1))
 
 pub best-spec : {M : Type 1} → statement M
 best-spec = tie.close (tie.spec best-for-levels-requires hand-gap-requires hand-requires same-length returns)

@@ -51,8 +51,8 @@ returns : tie.Need-returns
 returns c =
     let call = c .before .before .before .before .before .before .feasible in
     let found = call .ensures in
-    let e = said (call .result .hues) (c .before .enum-told .given .1) (found .0 .0) in
-    (placed-gives _ e, (gap-given _ e (found .1 .0), found .1 .1))
+    let e = said (call .result .hues) (c .before .enum-told .given .1) (found .0 .says) in
+    (placed-gives _ e, (gap-given _ e (found .0 .tightest-is), found .1))
 
 same-length-2 : tie.Need-same-length-2
 same-length-2 c = search needs
@@ -61,8 +61,8 @@ returns-2 : tie.Need-returns-2
 returns-2 c =
     let call = c .before .before .before .before .before .before .feasible in
     let found = call .ensures in
-    let e = said (call .result .hues) (c .before .enum-told2 .given .1) (found .0 .0) in
-    (nowhere-gives _ e (found .0 .1), (gap-given _ e (found .1 .0), found .1 .1))
+    let e = said (call .result .hues) (c .before .enum-told2 .given .1) (found .0 .says) in
+    (nowhere-gives _ e (found .0 .beside), (gap-given _ e (found .0 .tightest-is), found .1))
 
 same-length-3 : tie.Need-same-length-3
 same-length-3 c = search needs
@@ -71,9 +71,9 @@ returns-3 : tie.Need-returns-3
 returns-3 c =
     let call = c .before .before .before .before .before .before .before .feasible in
     let found = call .ensures in
-    let e = said (call .result .hues) (c .before .before .answer .given .1) (found .0 .0) in
+    let e = said (call .result .hues) (c .before .before .answer .given .1) (found .0 .says) in
     let kept = refused-gives _ e in
-    ((c .number .ensures ∙ kept .0, kept .1), (gap-left _ _ e, found .1 .1))
+    ((c .number .ensures ∙ kept .0, kept .1), (gap-left _ _ e, found .1))
 
 pub place-spec : {M : Type 1} → statement M
 place-spec =

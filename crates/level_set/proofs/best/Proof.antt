@@ -1,10 +1,10 @@
--- `level_set::best` meets its contract: the row is that of least values, and what is said goes by whether its largest is above 0. Assumes nothing.
-use mathlib.Core.Path.{refl, ap, _∙_}
+-- `level_set::best` meets its contract: the row is that of least values, and what is said depends on whether its largest is above 0. Assumes nothing.
+use mathlib.Core.Path.{refl, ap}
 use lib.Ieee.{ofBits, ofInt, nanBits}
 use lib.ListN.{length}
 use borrow.Author.Needs.{needs}
 use Rattle.pair_rules.specs.Pair.{huesBeside, tightestBeside}
-use Rattle.level_set.proofs.Choosing.{gap-round, something, nothing}
+use Rattle.level_set.proofs.Choosing.{given-round, something, nothing}
 use Rattle.level_set.proofs.best.Statement.{statement}
 use Rattle.level_set.proofs.best.Tie as tie
 
@@ -47,8 +47,7 @@ returns c =
     let s = l .before .before .before .before .before in
     let a = s .args in
     let e = something (a .k) (a .step) (a .table .now) (a .levels .now) (length (a .work .now)) (s .pre) _ (l .lower-all .ensures) (m .largest .result) (m .largest .ensures) (i .if1 .taken) in
-    let given = f .best-for-row .ensures in
-    record { says = given .0 .0 ∙ e; beside = given .0 .1 ∙ ap huesBeside e; tightest-is = gap-round (a .k) (a .step) (a .table .now) (a .levels .now) (length (a .work .now)) (s .pre) _ (l .lower-all .ensures) (f .best-for-row .result .tightest) e (given .1 .0) }
+    given-round (a .k) (a .step) (a .table .now) (a .levels .now) (length (a .work .now)) (s .pre) _ (l .lower-all .ensures) e (f .best-for-row .ensures .0)
 
 returns-2 : tie.Need-returns-2
 unfolding ofBits ofInt

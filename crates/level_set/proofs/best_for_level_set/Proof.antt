@@ -3,7 +3,7 @@ use mathlib.Core.Path.{refl, sym, subst}
 use lib.ListN.{length}
 use borrow.Author.Needs.{needs}
 use Rattle.limits.proofs.Checks.{said-twice}
-use Rattle.level_set_rules.specs.Set.{Gives}
+use Rattle.pair_rules.specs.Pair.{Gives}
 use Rattle.level_set.proofs.Choosing.{declined, refusing, passing, taken}
 use Rattle.level_set.proofs.best_for_level_set.Statement.{statement}
 use Rattle.level_set.proofs.best_for_level_set.Tie as tie
@@ -46,7 +46,7 @@ returns c =
     let f = t .before .before .before in
     let a = f .before .before .before .before .args in
     let e = declined (a .k) (a .table .now) (a .levels .now) (length (a .work .now)) (f .step-for .result) (f .step-for .ensures) (t .before .stepping .given .0 .0) (t .before .stepping .given .1) in
-    (subst (Gives (a .k) (c .refuse .result)) (sym e) (c .refuse .ensures (a .k)), λ w again. refl)
+    (subst (Gives 720 (a .k) (c .refuse .result)) (sym e) (c .refuse .ensures (a .k)), λ w again. refl)
 
 returns-2 : tie.Need-returns-2
 returns-2 c =
@@ -56,7 +56,7 @@ returns-2 c =
     let f = t .before .before .before in
     let a = f .before .before .before .before .args in
     let e = refusing (a .k) (a .table .now) (a .levels .now) (length (a .work .now)) (f .step-for .result) (f .step-for .ensures) (t .before .stepping2 .given .0 .0) (t .before .stepping2 .given .1) (k .check .result) (k .check .ensures) (r .checked .given .0 .0) (r .checked .given .1) in
-    (subst (Gives (a .k) (c .refuse2 .result)) (sym e) (c .refuse2 .ensures (a .k)), λ w again. refl)
+    (subst (Gives 720 (a .k) (c .refuse2 .result)) (sym e) (c .refuse2 .ensures (a .k)), λ w again. refl)
 
 same-length : tie.Need-same-length
 same-length c = search needs
@@ -70,7 +70,7 @@ returns-3 c =
     let f = t .before .before .before in
     let a = f .before .before .before .before .args in
     let e = passing (a .k) (a .table .now) (a .levels .now) (length (a .work .now)) (f .step-for .result) (f .step-for .ensures) (t .before .stepping2 .given .0 .0) (t .before .stepping2 .given .1) (k .check .result) (k .check .ensures) (o .enum-told .given .1) in
-    (subst (Gives (a .k) (b .best .result)) (sym e) (b .best .ensures), λ w again. said-twice e again)
+    (subst (Gives 720 (a .k) (b .best .result)) (sym e) (b .best .ensures), λ w again. said-twice e again)
 
 pub best-for-level-set-spec : {M : Type 1} → statement M
 best-for-level-set-spec =

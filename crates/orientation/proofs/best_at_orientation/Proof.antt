@@ -1,9 +1,8 @@
 -- `orientation::best_at_orientation` meets its contract: the check says what is refused, and the rest is the best of all dark levels. Assumes nothing.
 use mathlib.Core.Path.{_≡_, refl, sym, ap, _∙_, subst}
-use mathlib.Core.List.{List, [], _∷_}
-use Prim.Native.Nat.{ℕ, suc, _<_}
+use mathlib.Core.List.{List}
+use Prim.Native.Nat.{ℕ, _<_}
 use lib.Ieee.{Float, nan}
-use lib.ListN.{getD}
 use borrow.Author.Needs.{needs}
 use Rattle.limits.specs.Answers.{value, refused, pass}
 use Rattle.limits.specs.Refusals.{number, checkSaid}
@@ -12,6 +11,7 @@ use Rattle.limits.specs.declared.Refusal.{Refusal}
 use Rattle.limits.specs.declared.Checked.{Checked}
 use Rattle.limits.specs.declared.Checked.the-variants.{Fine, Wrong}
 use Rattle.limits.proofs.Checks.{fine, wrong}
+use Rattle.limits.proofs.Lists.{each-at}
 use Rattle.orientation_rules.specs.Orientation.{Best, none, found, bestFixed, orientationChecked, orientationSays, Gives}
 use Rattle.orientation_rules.specs.Fixed.{OrientationTaken}
 use Rattle.orientation_rules.proofs.Accepted.{orientation-checks, orientation-only}
@@ -19,10 +19,6 @@ use Rattle.orientation_rules.proofs.Meaning.{found-greatest}
 use Rattle.orientation.specs.Inner.{bestOf, PartnerIn}
 use Rattle.orientation.proofs.best_at_orientation.Statement.{statement}
 use Rattle.orientation.proofs.best_at_orientation.Tie as tie
-
-all-f32 : (xs : List Float) → ((i : ℕ) → F32 (getD xs i nan)) → Each F32 xs
-all-f32 [] h = tt
-all-f32 (x ∷ xs) h = (h 0, all-f32 xs (λ (i : ℕ). h (suc i)))
 
 -- ---- by what the check found
 module _ (gap : Float) (t : List Float) (hue : ℕ) (r : Checked) (says : checkSaid r ≡ orientationChecked gap t hue pass) where
@@ -56,7 +52,7 @@ over-dark-requires c κs =
     let k = c .before .before in
     let s = k .before in
     let a = s .before .args in
-    record { taken = taken (a .gap) (a .table .now) (a .hue) (k .check .result) (k .check .ensures) (c .enum-told .given .1); f32 = all-f32 (a .table .now) (s .shared-slice-known .given) }
+    record { taken = taken (a .gap) (a .table .now) (a .hue) (k .check .result) (k .check .ensures) (c .enum-told .given .1); f32 = each-at F32 nan (a .table .now) (s .shared-slice-known .given) }
 
 handed-requires : tie.Need-handed-requires
 handed-requires c κs =
@@ -64,7 +60,7 @@ handed-requires c κs =
     let s = k .before in
     let a = s .before .args in
     let h = taken (a .gap) (a .table .now) (a .hue) (k .check .result) (k .check .ensures) (c .before .enum-told .given .1) in
-    record { hue-in = h .hue-in; partner-in = partner-in (a .gap) (a .table .now) (a .hue) h (all-f32 (a .table .now) (s .shared-slice-known .given)) (bestOf (c .over-dark .result)) (sym (c .over-dark .ensures)) }
+    record { hue-in = h .hue-in; partner-in = partner-in (a .gap) (a .table .now) (a .hue) h (each-at F32 nan (a .table .now) (s .shared-slice-known .given)) (bestOf (c .over-dark .result)) (sym (c .over-dark .ensures)) }
 
 returns : tie.Need-returns
 returns c =

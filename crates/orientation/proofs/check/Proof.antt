@@ -1,6 +1,6 @@
--- `orientation::check` meets its contract, by its four tests in the order of the refusals. Assumes nothing.
+-- `orientation::check` meets its contract: the gap, what the table's own check says, and the hue, in the order of the refusals. Assumes nothing.
 use mathlib.Core.Path.{_≡_, sym, _∙_}
-use mathlib.Core.Bool.{true, false}
+use mathlib.Core.Bool.{true, false, cond}
 use mathlib.Core.List.{List}
 use Prim.Native.Nat.{ℕ}
 use native.Mathlib.Omega.{arith}
@@ -9,8 +9,14 @@ use lib.Ieee.{Float}
 use borrow.Author.Needs.{needs}
 use borrow.Author.Tests.{not-true, not-false, le-leb, lt-leb}
 use Rattle.limits.specs.Answers.{Said, value, refused}
-use Rattle.limits.specs.Taken.{gapTaken, entryTaken, every}
-use Rattle.gamut.specs.Table.{tableTaken}
+use Rattle.limits.specs.Refusals.{number, checkSaid}
+use Rattle.limits.specs.Taken.{gapTaken}
+use Rattle.limits.specs.declared.Refusal.{Refusal}
+use Rattle.limits.specs.declared.Checked.{Checked}
+use Rattle.limits.specs.declared.Checked.the-variants.{Fine, Wrong}
+use Rattle.limits.proofs.Checks.{fine, wrong}
+use Rattle.gamut.specs.Table.{tableChecked}
+use Rattle.gamut.proofs.Table.{table-checks}
 use Rattle.orientation_rules.specs.Orientation.{orientationChecked}
 use Rattle.orientation.proofs.check.Statement.{statement}
 use Rattle.orientation.proofs.check.Tie as tie
@@ -23,24 +29,23 @@ module _ (gap : Float) (table : List Float) (hue : ℕ) where
   unfolding orientationChecked
   first f = rw f
 
-  module _ (one : gapTaken gap ≡ true) where
-    second : tableTaken table ≡ false → refused 6 ≡ said
+  -- once the gap is taken, by what the table's check found
+  module _ (one : gapTaken gap ≡ true) (r : Checked) (says : checkSaid r ≡ tableChecked table (value tt)) where
+    abbrev last : Said (Unit {0})
+    last = cond (leb hue 719) (value tt) (refused 12)
+
+    then : tableChecked table last ≡ said
     unfolding orientationChecked
-    second f = rw (one, f)
+    then = rw one
 
-    module _ (two : tableTaken table ≡ true) where
-      third : every entryTaken table ≡ false → refused 7 ≡ said
-      unfolding orientationChecked
-      third f = rw (one, two, f)
+    in-table : (w : Refusal) → r ≡ Wrong w → refused (number w) ≡ said
+    in-table w f = sym (wrong (table-checks table) r says last w f) ∙ then
 
-      module _ (three : every entryTaken table ≡ true) where
-        fourth : leb hue 719 ≡ false → refused 12 ≡ said
-        unfolding orientationChecked
-        fourth f = rw (one, two, three, f)
+    in-hue : r ≡ Fine → leb hue 719 ≡ false → refused 12 ≡ said
+    in-hue f h = let e : refused 12 ≡ last = rw h in e ∙ (sym (fine (table-checks table) r says last f) ∙ then)
 
-        fine : leb hue 719 ≡ true → value tt ≡ said
-        unfolding orientationChecked
-        fine f = rw (one, two, three, f)
+    nowhere : r ≡ Fine → leb hue 719 ≡ true → value tt ≡ said
+    nowhere f h = let e : value tt ≡ last = rw h in e ∙ (sym (fine (table-checks table) r says last f) ∙ then)
 
 takes-gap-requires : tie.Need-takes-gap-requires
 takes-gap-requires c κs = search needs
@@ -51,49 +56,34 @@ returns c = first _ _ (c .before .before .before .args .hue) (sym (c .before .ta
 one : (c : tie.Else1) → gapTaken (c .before .before .before .args .gap) ≡ true
 one c = sym (c .before .takes-gap .ensures) ∙ not-false _ (c .if1 .left)
 
-takes-table-requires : tie.Need-takes-table-requires
-takes-table-requires c κs = search needs
+check-table-requires : tie.Need-check-table-requires
+check-table-requires c κs = search needs
+
+enum-known-checked : tie.Need-enum-known-checked
+enum-known-checked c = search needs
+
+enum-told : tie.Need-enum-told
+enum-told c = search needs
 
 returns-2 : tie.Need-returns-2
-returns-2 c = second _ _ (c .before .before .before .before .before .args .hue) (one (c .before .before)) (sym (c .before .takes-table .ensures) ∙ not-true _ (c .if2 .taken))
-
-two : (c : tie.Else2) → tableTaken (c .before .before .before .before .before .args .table .now) ≡ true
-two c = sym (c .before .takes-table .ensures) ∙ not-false _ (c .if2 .left)
-
-takes-entries-requires : tie.Need-takes-entries-requires
-takes-entries-requires c κs = search needs
+returns-2 c =
+    let o = c .before in
+    let k = o .before .before in
+    let hue = k .before .before .before .before .args .hue in
+    in-hue _ _ hue (one (k .before)) (k .check-table .result) (k .check-table .ensures) (o .enum-told .given .1) (lt-leb hue 719 (omega arith))
 
 returns-3 : tie.Need-returns-3
 returns-3 c =
-    let e = c .before .before in
-    third _ _ (e .before .before .before .before .before .args .hue) (one (e .before .before)) (two e) (sym (c .before .takes-entries .ensures) ∙ not-true _ (c .if3 .taken))
-
-three : (c : tie.Else3) → every entryTaken (c .before .before .before .before .before .before .before .args .table .now) ≡ true
-three c = sym (c .before .takes-entries .ensures) ∙ not-false _ (c .if3 .left)
+    let k = c .before .before .before in
+    let why = c .before .checked .given in
+    in-table _ _ (k .before .before .before .before .args .hue) (one (k .before)) (k .check-table .result) (k .check-table .ensures) (why .0 .0) (why .1)
 
 returns-4 : tie.Need-returns-4
 returns-4 c =
-    let f = c .before in
-    let e = f .before .before in
-    let hue = f .before .before .before .before .before .before .before .args .hue in
-    fourth _ _ hue (one (e .before .before)) (two e) (three f) (lt-leb hue 719 (omega arith))
-
-returns-5 : tie.Need-returns-5
-returns-5 c =
-    let f = c .before in
-    let e = f .before .before in
-    let hue = f .before .before .before .before .before .before .before .args .hue in
-    fine _ _ hue (one (e .before .before)) (two e) (three f) (le-leb hue 719 (omega arith))
+    let o = c .before in
+    let k = o .before .before in
+    let hue = k .before .before .before .before .args .hue in
+    nowhere _ _ hue (one (k .before)) (k .check-table .result) (k .check-table .ensures) (o .enum-told .given .1) (le-leb hue 719 (omega arith))
 
 pub check-spec : {M : Type 1} → statement M
-check-spec =
-    tie.close
-    (tie.spec
-    takes-gap-requires
-    returns
-    takes-table-requires
-    returns-2
-    takes-entries-requires
-    returns-3
-    returns-4
-    returns-5)
+check-spec = tie.close (tie.spec takes-gap-requires returns check-table-requires enum-known-checked enum-told returns-2 returns-3 returns-4)

@@ -10,9 +10,9 @@ use lib.Ieee.{Float}
 use lib.ListN.{length}
 use borrow.Author.Needs.{needs}
 use Rattle.gamut.specs.Table.{levelsIn}
-use Rattle.search_rules.specs.Job.{qualifies}
+use Rattle.search_rules.specs.Job.{farEnough}
 use Rattle.search_rules.specs.Loops.{loop}
-use Rattle.orientation_rules.specs.Orientation.{Best, asked, overPartners, tried, overLight}
+use Rattle.orientation_rules.specs.Orientation.{Best, overPartners, tried, overLight}
 use Rattle.orientation_rules.proofs.Accepted.{good-table}
 use Rattle.orientation_rules.proofs.Turns.{one-taken, all-taken}
 use Rattle.orientation_rules.proofs.Skipping.{Reached, reached-on}
@@ -20,13 +20,13 @@ use Rattle.orientation.specs.Inner.{bestOf}
 use Rattle.orientation.proofs.over_light.Statement.{statement}
 use Rattle.orientation.proofs.over_light.Tie as tie
 
--- one light level, by whether it qualifies
+-- one light level, by whether it is far enough from the dark one
 module _ (gap : Float) (t : List Float) (hue d l : ℕ) (so : Best) where
-  far : (next : Best) → qualifies (asked gap) d l ≡ true → next ≡ overPartners t hue d l so → next ≡ tried gap t hue d l so
+  far : (next : Best) → farEnough gap d l ≡ true → next ≡ overPartners t hue d l so → next ≡ tried gap t hue d l so
   unfolding tried
   far next q e = rw q e
 
-  near : qualifies (asked gap) d l ≡ false → so ≡ tried gap t hue d l so
+  near : farEnough gap d l ≡ false → so ≡ tried gap t hue d l so
   unfolding tried
   near q = rw q
 
@@ -35,10 +35,10 @@ abbrev LevelsIn : List Float → ℕ → ℕ → Type 0
 LevelsIn t d l = (d < levelsIn t) × (l < levelsIn t) × (levelsIn t ≤ 169)
 
 abbrev Inv-loop : tie.InvT-loop
-Inv-loop gap table hue dark settings levels best₀ light₀ best light = (light ≤ levels) × (loop (λ l. tried gap table hue dark l) (levels - light) light (bestOf best) ≡ overLight gap table hue dark (bestOf best₀)) × Reached (bestOf best)
+Inv-loop gap table hue dark levels best₀ light₀ best light = (light ≤ levels) × (loop (λ l. tried gap table hue dark l) (levels - light) light (bestOf best) ≡ overLight gap table hue dark (bestOf best₀)) × Reached (bestOf best)
 
 abbrev μ-loop : tie.MeasureT-loop
-μ-loop gap table hue dark settings levels best₀ light₀ best light = levels - light
+μ-loop gap table hue dark levels best₀ light₀ best light = levels - light
 
 loop-holds : tie.Need-loop-holds Inv-loop μ-loop
 unfolding overLight levelsIn
@@ -55,14 +55,14 @@ inside c =
     let light = c .loop-test .taken in
     (s .pre .dark-in, omega arith, s .pre .asked .taken .levels .1)
 
-cast-qualifies : tie.Need-cast-qualifies Inv-loop μ-loop
-cast-qualifies c = let i = inside c in omega arith
+cast-far-enough : tie.Need-cast-far-enough Inv-loop μ-loop
+cast-far-enough c = let i = inside c in omega arith
 
-cast-qualifies-2 : tie.Need-cast-qualifies-2 Inv-loop μ-loop
-cast-qualifies-2 c = let i = inside c in omega arith
+cast-far-enough-2 : tie.Need-cast-far-enough-2 Inv-loop μ-loop
+cast-far-enough-2 c = let i = inside c in omega arith
 
-qualifies-requires : tie.Need-qualifies-requires Inv-loop μ-loop
-qualifies-requires c κs = search needs
+far-enough-requires : tie.Need-far-enough-requires Inv-loop μ-loop
+far-enough-requires c κs = search needs
 
 over-partners-requires : tie.Need-over-partners-requires Inv-loop μ-loop
 over-partners-requires c κs =
@@ -99,11 +99,11 @@ loop-again c =
     let next : (bestOf (c .if1 .best) ≡ tried (a .gap) t (a .hue) (a .dark) light so) × Reached (bestOf (c .if1 .best)) =
     ⊎-elim
     (λ r. let e = ap bestOf (r .2) ∙ r .1 .ensures in (
-      far (a .gap) t (a .hue) (a .dark) light so (bestOf (c .if1 .best)) (sym (c .before .qualifies .ensures) ∙ r .0 .taken) e,
+      far (a .gap) t (a .hue) (a .dark) light so (bestOf (c .if1 .best)) (sym (c .before .far-enough .ensures) ∙ r .0 .taken) e,
       subst Reached (sym e) (reached-on t good (a .hue) (a .dark) light (taken .hue-in) (i .0) (i .1) so (l .loop .inv .2)),
     ))
     (λ r. let e = ap bestOf (r .1) in
-    (e ∙ near (a .gap) t (a .hue) (a .dark) light so (sym (c .before .qualifies .ensures) ∙ r .0 .left), subst Reached (sym e) (l .loop .inv .2)))
+    (e ∙ near (a .gap) t (a .hue) (a .dark) light so (sym (c .before .far-enough .ensures) ∙ r .0 .left), subst Reached (sym e) (l .loop .inv .2)))
     (c .if1 .came) in (
       omega arith,
       one-taken (tried (a .gap) t (a .hue) (a .dark)) (length t / 720) light so (bestOf (c .if1 .best)) (overLight (a .gap) t (a .hue) (a .dark) (bestOf (a .kept))) (omega arith) (next .0) (l .loop .inv .1),
@@ -126,9 +126,9 @@ over-light-spec =
     Inv-loop
     μ-loop
     loop-holds
-    cast-qualifies
-    cast-qualifies-2
-    qualifies-requires
+    cast-far-enough
+    cast-far-enough-2
+    far-enough-requires
     over-partners-requires
     add-light
     loop-less

@@ -8,8 +8,9 @@ use lib.Ieee.{Float}
 use lib.ListN.{length, take, length-append}
 use lib.Seq.{take-at}
 use Rattle.pair_rules.specs.Rows.{leastRow, largest}
-use Rattle.pair_rules.specs.Pair.{bestOver}
-use Rattle.pair.specs.Inner.{Lent, Gives}
+use Rattle.limits.specs.Answers.{value}
+use Rattle.pair_rules.specs.Pair.{bestOver, Gives}
+use Rattle.pair.specs.Inner.{Lent}
 use Rattle.pair_rules.proofs.Rows.{least-long}
 use Rattle.pair.proofs.Checking.{short, least-checked, two-alike}
 use borrow.Author.Needs.{needs}
@@ -76,8 +77,8 @@ returns c =
     let s = f .before .before .before .before .before in
     let a = s .args in
     let rows = a .a .now ∷ a .b .now ∷ [] in
-    subst (λ (n : ℕ). Gives n (a .k) (t .from-floor .result) (bestOver (a .k) (a .step) (a .floor) (leastRow rows))) (least-long rows)
-    (subst (λ (row : List Float). Gives (length row) (a .k) (t .from-floor .result) (bestOver (a .k) (a .step) (a .floor) row)) (front _ _ (leastRow rows) (length (a .a .now)) (f .lesser-row .ensures .0) (least-long rows)) (t .from-floor .ensures))
+    subst (λ (n : ℕ). Gives n (a .k) (t .from-floor .result) (value (bestOver (a .k) (a .step) (a .floor) (leastRow rows)))) (least-long rows)
+    (subst (λ (row : List Float). Gives (length row) (a .k) (t .from-floor .result) (value (bestOver (a .k) (a .step) (a .floor) row))) (front _ _ (leastRow rows) (length (a .a .now)) (f .lesser-row .ensures .0) (least-long rows)) (t .from-floor .ensures))
 
 pub best-spec : {M : Type 1} → statement M
 best-spec =

@@ -1,10 +1,10 @@
 -- `pair::best_for_levels` meets its contract: the check says what is refused, and `best` the rest. Assumes nothing.
-use mathlib.Core.Path.{refl, sym, ap, _∙_}
+use mathlib.Core.Path.{refl, sym, subst}
 use mathlib.Core.List.{[], _∷_}
 use denote.Ref.{now}
 use lib.ListN.{length}
 use Rattle.limits.proofs.Checks.{said-twice}
-use Rattle.pair_rules.specs.Pair.{huesBeside, tightestBeside}
+use Rattle.pair_rules.specs.Pair.{Gives}
 use Rattle.pair.proofs.Checking.{passed, passing, refusing}
 use borrow.Author.Needs.{needs}
 use Rattle.pair.proofs.best_for_levels.Statement.{statement}
@@ -30,7 +30,7 @@ returns c =
     let k = c .before .before .before in
     let a = k .before .before .before .before .args in
     let e = refusing (a .k) (a .step) (a .floor) (now (a .a) ∷ now (a .b) ∷ []) (length (now (a .work))) (k .check .result) (c .before .checked .given .0 .0) (c .before .checked .given .1) (k .check .ensures) in
-    ((sym e, sym (ap huesBeside e)), (sym (ap (tightestBeside (length (now (a .a))) (a .k)) e), λ w again. refl))
+    (subst (Gives (length (now (a .a))) (a .k) _) (sym e) (record { says = refl; beside = refl; tightest-is = refl }), λ w again. refl)
 
 same-length : tie.Need-same-length
 same-length c = search needs
@@ -40,8 +40,7 @@ returns-2 c =
     let k = c .before .before .before .before .before .before in
     let a = k .before .before .before .before .args in
     let e = passing (a .k) (a .step) (a .floor) (now (a .a) ∷ now (a .b) ∷ []) (length (now (a .work))) (k .check .result) (c .before .before .before .before .enum-told .given .1) (k .check .ensures) in
-    let given = c .before .before .best .ensures in
-    ((given .says ∙ sym e, given .beside ∙ sym (ap huesBeside e)), (given .tightest-is ∙ sym (ap (tightestBeside (length (now (a .a))) (a .k)) e), λ w again. said-twice e again))
+    (subst (Gives (length (now (a .a))) (a .k) (c .before .before .best .result)) (sym e) (c .before .before .best .ensures), λ w again. said-twice e again)
 
 pub best-for-levels-spec : {M : Type 1} → statement M
 best-for-levels-spec =

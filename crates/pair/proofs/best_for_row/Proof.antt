@@ -1,11 +1,11 @@
 -- `pair::best_for_row` meets its contract: the check says what is refused, and `from_floor` the rest. Assumes nothing.
-use mathlib.Core.Path.{refl, sym, ap, _∙_}
+use mathlib.Core.Path.{refl, sym, ap, _∙_, subst}
 use denote.Ref.{now}
 use lib.ListN.{length}
 use borrow.Author.Needs.{needs}
 use Rattle.limits.specs.Refusals.{checkSaid}
 use Rattle.limits.proofs.Checks.{said-twice}
-use Rattle.pair_rules.specs.Pair.{huesBeside, tightestBeside}
+use Rattle.pair_rules.specs.Pair.{Gives}
 use Rattle.pair.proofs.Checking.{one-refusing, one-passing}
 use Rattle.pair.proofs.best_for_row.Statement.{statement}
 use Rattle.pair.proofs.best_for_row.Tie as tie
@@ -33,7 +33,7 @@ returns c =
     let k = c .before .before .before in
     let a = k .before .before .before .args in
     let e = one-refusing (a .k) (a .step) (a .floor) (now (a .row)) (length (now (a .work))) (k .check .result) (k .check .ensures) (c .before .checked .given .0 .0) (c .before .checked .given .1) in
-    ((sym e, sym (ap huesBeside e)), (sym (ap (tightestBeside (length (now (a .row))) (a .k)) e), λ w again. refl))
+    (subst (Gives (length (now (a .row))) (a .k) _) (sym e) (record { says = refl; beside = refl; tightest-is = refl }), λ w again. refl)
 
 same-length : tie.Need-same-length
 same-length c = search needs
@@ -45,8 +45,7 @@ returns-2 c =
     let k = o .before .before in
     let a = k .before .before .before .args in
     let e = one-passing (a .k) (a .step) (a .floor) (now (a .row)) (length (now (a .work))) (k .check .result) (k .check .ensures) (o .enum-told .given .1) in
-    let given = f .from-floor .ensures in
-    ((given .says ∙ sym e, given .beside ∙ sym (ap huesBeside e)), (given .tightest-is ∙ sym (ap (tightestBeside (length (now (a .row))) (a .k)) e), λ w again. said-twice e again))
+    (subst (Gives (length (now (a .row))) (a .k) (f .from-floor .result)) (sym e) (f .from-floor .ensures), λ w again. said-twice e again)
 
 pub best-for-row-spec : {M : Type 1} → statement M
 best-for-row-spec =

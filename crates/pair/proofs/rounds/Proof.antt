@@ -8,8 +8,10 @@ use lib.Dec.{T}
 use lib.ListN.{length}
 use borrow.Author.Needs.{needs}
 use borrow.Author.Tests.{not-true, not-false}
+use Rattle.limits.specs.Answers.{value}
 use Rattle.limits.proofs.Floats.{never}
-use Rattle.pair.specs.Inner.{Stands, Gives}
+use Rattle.pair_rules.specs.Pair.{Gives}
+use Rattle.pair.specs.Inner.{Stands}
 use Rattle.pair.proofs.Climbing.{Climbed, floor-met, most-met, begin, onward, at-last}
 use Rattle.pair.proofs.rounds.Statement.{statement}
 use Rattle.pair.proofs.rounds.Tie as tie
@@ -63,7 +65,7 @@ returns c =
     let l = e .before in
     let s = l .before .before .before in
     let all : l .loop .at .still ≡ false → 30 ≤ l .loop .i = λ f. ⊎-elim (λ u. never (sym f ∙ not-false _ (u .2 .left))) (λ u. let h = u .left in omega arith) (e .loop-test .came) in
-    subst (Gives (length (s .args .row .now)) (s .args .k) (c .found .result)) (sym (at-last (s .pre .0) (l .loop .inv .2) (s .pre .1 .passes) all)) (c .found .ensures (length (s .args .row .now)) (s .args .k) (l .loop .inv .2 .stands .there .tightest-is))
+    subst (Gives (length (s .args .row .now)) (s .args .k) (c .found .result)) (sym (ap value (at-last (s .pre .0) (l .loop .inv .2) (s .pre .1 .passes) all))) (c .found .ensures (length (s .args .row .now)) (s .args .k) (l .loop .inv .2 .stands .there .tightest-is))
 
 pub rounds-spec : {M : Type 1} → statement M
 rounds-spec =

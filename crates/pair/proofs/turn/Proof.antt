@@ -56,10 +56,10 @@ module _ (p : tie.After-is-placed) where
   c₀ = midpoint (s .args .at .lo) (s .args .at .hi)
 
   says : answers (f .feasible .result .answer) (f .feasible .result .hues) ≡ placementSays (s .args .k) (s .args .step) c₀ (s .args .row .now) (length (s .args .work .now))
-  says = f .feasible .ensures .0 .0 ∙ ap (λ (c : Float). placementSays (s .args .k) (s .args .step) c (s .args .row .now) (length (s .args .work .now))) (m .midpoint .ensures)
+  says = f .feasible .ensures .0 .says ∙ ap (λ (c : Float). placementSays (s .args .k) (s .args .step) c (s .args .row .now) (length (s .args .work .now))) (m .midpoint .ensures)
 
   apart : f .feasible .result .tightest ≡ tightestBeside (length (s .args .row .now)) (s .args .k) (placementSays (s .args .k) (s .args .step) c₀ (s .args .row .now) (length (s .args .work .now)))
-  apart = f .feasible .ensures .1 .0 ∙ ap (λ (c : Float). tightestBeside (length (s .args .row .now)) (s .args .k) (placementSays (s .args .k) (s .args .step) c (s .args .row .now) (length (s .args .work .now)))) (m .midpoint .ensures)
+  apart = f .feasible .ensures .0 .tightest-is ∙ ap (λ (c : Float). tightestBeside (length (s .args .row .now)) (s .args .k) (placementSays (s .args .k) (s .args .step) c (s .args .row .now) (length (s .args .work .now)))) (m .midpoint .ensures)
 
   yes : p .is-placed .result ≡ true → There (s .args .k) (s .args .step) (s .args .row .now) c₀ (f .feasible .result .hues) (f .feasible .result .tightest)
   yes t = placed-at (s .args .k) (s .args .step) (s .args .row .now) (length (s .args .work .now)) (s .args .at .lo) (s .pre .fine) (mid-met (s .pre)) (f .feasible .result .answer) (f .feasible .result .hues) says (f .feasible .result .tightest) apart (sym (p .is-placed .ensures) ∙ t)

@@ -1,11 +1,11 @@
 -- `placement::feasible` meets its contract: the check says what is refused, and `place` the rest. Assumes nothing.
-use mathlib.Core.Path.{_≡_, refl, sym, ap, _∙_}
+use mathlib.Core.Path.{refl, sym, subst}
 use native.Mathlib.Omega.{arith}
 use borrow.Author.Needs.{needs}
 use denote.Ref.{now}
 use lib.ListN.{length}
 use Rattle.limits.proofs.Checks.{said-twice}
-use Rattle.placement_rules.specs.Placing.{workNeeded, huesBeside, tightestBeside}
+use Rattle.placement_rules.specs.Placing.{workNeeded, Gives}
 use Rattle.placement.proofs.Checking.{asked, passed, placing, refusing}
 use Rattle.placement.proofs.feasible.Statement.{statement}
 use Rattle.placement.proofs.feasible.Tie as tie
@@ -34,7 +34,7 @@ returns : tie.Need-returns
 returns c =
     let a = c .before .before .before .before .before .before .args in
     let e = refusing (a .k) (a .step) (a .c) (now (a .m)) (length (now (a .work))) (c .before .before .before .check .result) (c .before .checked .given .0 .0) (c .before .checked .given .1) (c .before .before .before .check .ensures) in
-    ((sym e, sym (ap huesBeside e)), (sym (ap (tightestBeside (length (now (a .m))) (a .k)) e), λ w again. refl))
+    (subst (Gives (length (now (a .m))) (a .k) _) (sym e) (record { says = refl; beside = refl; tightest-is = refl }), λ w again. refl)
 
 same-length : tie.Need-same-length
 same-length c = search needs
@@ -43,8 +43,7 @@ returns-2 : tie.Need-returns-2
 returns-2 c =
     let a = c .before .before .before .before .before .before .before .before .before .args in
     let e = placing (a .k) (a .step) (a .c) (now (a .m)) (length (now (a .work))) (c .before .before .before .before .before .before .check .result) (c .before .before .before .before .enum-told .given .1) (c .before .before .before .before .before .before .check .ensures) in
-    let given = c .before .before .place .ensures in
-    ((given .says ∙ sym e, given .beside ∙ sym (ap huesBeside e)), (given .tightest-is ∙ sym (ap (tightestBeside (length (now (a .m))) (a .k)) e), λ w again. said-twice e again))
+    (subst (Gives (length (now (a .m))) (a .k) (c .before .before .place .result)) (sym e) (c .before .before .place .ensures), λ w again. said-twice e again)
 
 pub feasible-spec : {M : Type 1} → statement M
 feasible-spec =

@@ -7,8 +7,8 @@ use lib.ListN.{length}
 use borrow.Author.Needs.{needs}
 use Rattle.placement_rules.specs.Ring.{Places, nowhere, fromStart, firstFrom, reduced, placement}
 use Rattle.placement_rules.specs.Placing.{allowedAt, sixteen}
-use Rattle.placement.specs.Inner.{Asked, Gives}
-use Rattle.placement.proofs.Placing.{gives-none}
+use Rattle.placement.specs.Inner.{Asked}
+use Rattle.placement.proofs.Placing.{gives-same}
 use Rattle.placement.proofs.First.{placed-there, not-placed-there, starts, found, onward, none}
 use Rattle.placement.proofs.first_start.Statement.{statement}
 use Rattle.placement.proofs.first_start.Tie as tie
@@ -63,7 +63,7 @@ returns c =
     let g = f .place-from .ensures in
     let yes = placed-there (f .place-from .result .answer) (f .place-from .result .hues) (length row) (fromStart (allowedAt row (s .args .c)) (length row) (s .args .k) (s .args .step) (l .loop .s)) (sym (p .is-placed .ensures) ∙ c .if1 .taken) (g .says) in
     let h = t .loop-test .taken in
-    subst (Gives (length row) (s .args .k) (f .place-from .result)) (sym (found row (s .args .c) (s .args .k) (s .args .step) (s .pre .0) (l .loop .s) (l .loop .inv .1) (omega arith) yes)) g
+    gives-same (ap sixteen (found row (s .args .c) (s .args .k) (s .args .step) (s .pre .0) (l .loop .s) (l .loop .inv .1) (omega arith) yes)) g
 
 add-s : tie.Need-add-s Inv-loop μ-loop
 add-s c = let h = c .before .before .before .loop-test .taken in let n = c .before .before .before .before .before .before .before .pre .0 .short in omega arith
@@ -94,7 +94,7 @@ returns-2 c =
     let s = l .before .before .before in
     let h = a .loop-test .left in
     let e = none (s .args .m .now) (s .args .c) (s .args .k) (s .args .step) (s .pre .0) (l .loop .s) (l .loop .inv .1) (omega arith) in
-    gives-none (length (s .args .m .now)) (s .args .k) (c .nowhere .result) _ (ap sixteen e) (c .nowhere .ensures (length (s .args .m .now)) (s .args .k))
+    gives-same (ap sixteen e) (c .nowhere .ensures (length (s .args .m .now)) (s .args .k))
 
 pub first-start-spec : {M : Type 1} → statement M
 first-start-spec = tie.close (tie.spec Inv-loop μ-loop sub-reach mul-reach loop-holds add-loop place-from-requires is-placed-requires returns add-s loop-less loop-again nowhere-requires returns-2)

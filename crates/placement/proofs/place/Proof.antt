@@ -5,7 +5,7 @@ use borrow.Author.Needs.{needs}
 use Rattle.placement_rules.specs.Placing.{sixteen}
 use Rattle.placement.proofs.Table.{is-there, is-none}
 use Rattle.placement.proofs.First.{none-allowed}
-use Rattle.placement.proofs.Placing.{gives-none}
+use Rattle.placement.proofs.Placing.{gives-same}
 use Rattle.placement.proofs.place.Statement.{statement}
 use Rattle.placement.proofs.place.Tie as tie
 
@@ -22,7 +22,7 @@ returns c =
     let s = f .before .before .before in
     let row = s .args .m .now in
     let none = is-none row (s .args .c) (s .pre .0 .short) (sym (t .if1 .taken) ∙ f .first-allowed .ensures) in
-    gives-none (length row) (s .args .k) (c .nowhere .result) _ (ap sixteen (none-allowed row (s .args .c) (s .args .k) (s .args .step) (s .pre .0) none)) (c .nowhere .ensures (length row) (s .args .k))
+    gives-same (ap sixteen (none-allowed row (s .args .c) (s .args .k) (s .args .step) (s .pre .0) none)) (c .nowhere .ensures (length row) (s .args .k))
 
 fill-requires : tie.Need-fill-requires
 fill-requires c κs =

@@ -24,7 +24,7 @@ feasible-requires c κs = search needs
 
 returns : tie.Need-returns
 unfolding workNeeded
-returns c = in-room _ _ _ _ _ (omega arith) (rw sub-zero at (c .before .feasible .ensures .0 .0))
+returns c = in-room _ _ _ _ _ (omega arith) (rw sub-zero at (c .before .feasible .ensures .0 .says))
 
 pub place-spec : {M : Type 1} → statement M
 place-spec =

@@ -1,10 +1,9 @@
 -- `search::best_of` meets its contract: the rows that it lends are those of the two levels, and of what `pair` checks only their entries are left. Assumes nothing.
-use mathlib.Core.Path.{ap, _∙_}
+use mathlib.Core.Path.{_∙_}
 use lib.ListN.{length}
 use borrow.Author.Needs.{needs}
-use Rattle.pair_rules.specs.Pair.{huesBeside}
 use Rattle.search_rules.proofs.Unbroken.{sound}
-use Rattle.search.proofs.Going.{pair-says, gap-round}
+use Rattle.search.proofs.Going.{pair-says, given-round}
 use Rattle.search.proofs.best_of.Statement.{statement}
 use Rattle.search.proofs.best_of.Tie as tie
 
@@ -64,8 +63,7 @@ returns c =
     let a = s .args in
     let e = pair-says (a .job) (a .table .now) (length (a .work .now)) (a .dark) (a .light) (f .before .step-of .result) (f .floor-of .result) (s .pre) (f .before .step-of .ensures) (f .floor-of .ensures) in
     let given = t .best-for-levels .ensures in
-    let gap = gap-round (a .job) (a .table .now) (length (a .work .now)) (a .dark) (a .light) (t .best-for-levels .result .tightest) (s .pre) e (given .1 .0) in
-    ((given .0 .0 ∙ e, given .0 .1 ∙ ap huesBeside e), (gap, λ w again. given .1 .1 w (e ∙ again)))
+    (given-round (a .job) (a .table .now) (length (a .work .now)) (a .dark) (a .light) (s .pre) e (given .0), λ w again. given .1 w (e ∙ again))
 
 pub best-of-spec : {M : Type 1} → statement M
 best-of-spec =

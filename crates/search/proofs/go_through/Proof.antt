@@ -90,7 +90,7 @@ returns-2 c =
     let answer = g .best-of .result .answer in
     let found = c .before .before .before .before .before .answer2 .given in
     let better = sym (c .before .before .before .beats .ensures) ∙ c .before .before .if2 .taken in
-    let e = went-better (a .job) (a .table .now) (a .dark) (a .light) far answer hues (given .0 .0) (found .0 .0) (found .1) (g .best-of .result .tightest) (given .1 .0) better in
+    let e = went-better (a .job) (a .table .now) (a .dark) (a .light) far answer hues (given .0 .says) (found .0 .0) (found .1) (g .best-of .result .tightest) (given .0 .tightest-is) better in
     (accepting (a .job) (c .before .replaced .ensures) e (c .accept3 .ensures), λ w again. said-twice e again)
 
 moved-on-requires-3 : tie.Need-moved-on-requires-3
@@ -112,9 +112,9 @@ returns-3 c =
     let hues = g .best-of .result .hues in
     let answer = g .best-of .result .answer in
     let why = c .before .before .answer .given in
-    let e = went-refused (a .job) (a .table .now) (a .dark) (a .light) far answer hues (given .0 .0) (why .0 .0) (why .1) in
-    let f = given-refused (a .job) (a .table .now) (a .dark) (a .light) far answer hues (given .0 .0) (why .0 .0) (why .1) in
-    (refusing e (c .refuse .ensures), λ w again. given .1 .1 (number (why .0 .0)) f)
+    let e = went-refused (a .job) (a .table .now) (a .dark) (a .light) far answer hues (given .0 .says) (why .0 .0) (why .1) in
+    let f = given-refused (a .job) (a .table .now) (a .dark) (a .light) far answer hues (given .0 .says) (why .0 .0) (why .1) in
+    (refusing e (c .refuse .ensures), λ w again. given .1 (number (why .0 .0)) f)
 
 same-length-3 : tie.Need-same-length-3
 same-length-3 c = search needs
@@ -128,7 +128,7 @@ returns-4 c =
     let given = g .best-of .ensures in
     let hues = g .best-of .result .hues in
     let answer = g .best-of .result .answer in
-    let e = went-nowhere (a .job) (a .table .now) (a .dark) (a .light) far answer hues (given .0 .0) (c .before .before .enum-told .given .1) in
+    let e = went-nowhere (a .job) (a .table .now) (a .dark) (a .light) far answer hues (given .0 .says) (c .before .before .enum-told .given .1) in
     (accepting (a .job) (c .before .moved-on2 .ensures) e (c .accept2 .ensures), λ w again. said-twice e again)
 
 same-length-4 : tie.Need-same-length-4
@@ -145,7 +145,7 @@ returns-5 c =
     let answer = g .best-of .result .answer in
     let found = c .before .before .before .before .before .answer2 .given in
     let worse = sym (c .before .before .before .beats .ensures) ∙ c .before .before .if2 .left in
-    let e = went-worse (a .job) (a .table .now) (a .dark) (a .light) far answer hues (given .0 .0) (found .0 .0) (found .1) worse in
+    let e = went-worse (a .job) (a .table .now) (a .dark) (a .light) far answer hues (given .0 .says) (found .0 .0) (found .1) worse in
     (accepting (a .job) (c .before .moved-on3 .ensures) e (c .accept4 .ensures), λ w again. said-twice e again)
 
 pub go-through-spec : {M : Type 1} → statement M

@@ -9,7 +9,7 @@ use Rattle.limits.specs.Refusals.{number}
 use Rattle.limits.specs.Taken.{hueCountTaken}
 use Rattle.limits.specs.declared.Refusal.{Refusal}
 use Rattle.placement_rules.specs.declared.Stepping.{Stepping}
-use Rattle.placement_rules.specs.declared.Stepping.the-variants.{Is, Declined}
+use Rattle.placement_rules.specs.declared.Stepping.the-variants.{Is, Refused}
 use Rattle.placement_rules.specs.Placing.{stepFor, stepSaid, stepSays}
 use Rattle.search.proofs.step_of.Statement.{statement}
 use Rattle.search.proofs.step_of.Tie as tie
@@ -22,7 +22,7 @@ module _ (r : Stepping) (k : ℕ) (taken : hueCountTaken k ≡ true) (says : ste
   is-step : (s : ℕ) → r ≡ Is s → s ≡ stepFor k
   is-step s f = let e : value s ≡ value (stepFor k) = sym (ap stepSaid f) ∙ said in cc
 
-  declined : {A : Type 0} (w : Refusal) → r ≡ Declined w → A
+  declined : {A : Type 0} (w : Refusal) → r ≡ Refused w → A
   declined w f = let e : refused (number w) ≡ value (stepFor k) = sym (ap stepSaid f) ∙ said in absurd (let z : _≡_ {A = ℕ} 0 1 = cc in omega arith)
 
 step-for-requires : tie.Need-step-for-requires

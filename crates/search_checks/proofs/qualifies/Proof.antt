@@ -1,19 +1,15 @@
--- `search_checks::qualifies` meets its contract: the code's 1 by its pattern is the specification's. Assumes nothing.
-use lib.Ieee.{ofBits, ofInt, neg}
+-- `search_checks::qualifies` meets its contract. Assumes nothing.
 use borrow.Author.Needs.{needs}
 use Rattle.search_rules.specs.Job.{qualifies}
 use Rattle.search_checks.proofs.qualifies.Statement.{statement}
 use Rattle.search_checks.proofs.qualifies.Tie as tie
 
-l-of-requires : tie.Need-l-of-requires
-l-of-requires c κs = search needs
-
-l-of-requires-2 : tie.Need-l-of-requires-2
-l-of-requires-2 c κs = search needs
+far-enough-requires : tie.Need-far-enough-requires
+far-enough-requires c κs = search needs
 
 returns : tie.Need-returns
-unfolding qualifies ofBits ofInt neg
-returns c = rw (c .before .before .l-of .ensures, c .before .l-of2 .ensures)
+unfolding qualifies
+returns c = c .far-enough .ensures
 
 pub qualifies-spec : {M : Type 1} → statement M
-qualifies-spec = tie.close (tie.spec l-of-requires l-of-requires-2 returns)
+qualifies-spec = tie.close (tie.spec far-enough-requires returns)
