@@ -6,7 +6,7 @@ use cases::{Line, MOST, Words};
 const ROOM: usize = 1024;
 
 // The words of what came out of a case, as many as a line can have at most.
-#[derive(Drop)]
+#[derive(Clone, Copy)]
 pub struct Answer {
     words: Words,
     count: usize,
@@ -92,7 +92,7 @@ impl Answer {
 }
 
 // A line being written.
-#[derive(Drop)]
+#[derive(Clone, Copy)]
 struct Text {
     bytes: [u8; ROOM],
     length: usize,

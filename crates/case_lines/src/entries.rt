@@ -2,7 +2,7 @@
 use cases::Words;
 
 // A ring or a row: its first entries up to its length.
-#[derive(Drop)]
+#[derive(Clone, Copy)]
 pub struct Row {
     pub entries: [f32; 800],
     pub length: usize,

@@ -1,4 +1,5 @@
 // A list of cases, read from standard input line by line, what the words of a line say, and the lines that a program answers.
+#![tactic(auto)]
 pub mod answers;
 pub mod digest;
 pub mod entries;
@@ -15,7 +16,7 @@ pub const TURNS: u64 = 0x100_0000_0000;
 const READ: usize = 4096;
 
 // How far a list was read.
-#[derive(Drop)]
+#[derive(Clone, Copy)]
 pub struct Reader {
     // the line read last
     pub line: Line,

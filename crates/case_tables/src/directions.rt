@@ -17,14 +17,14 @@ pub const LEN: u64 = 0x6c_656e;
 pub const SIZE: u64 = 0x7369_7a65;
 
 // The 720 directions.
-#[derive(Drop)]
+#[derive(Clone, Copy)]
 pub struct Directions {
     pub cos: [f32; 720],
     pub sin: [f32; 720],
 }
 
 // What the next case is lent, by the lines that wait for it.
-#[derive(Drop)]
+#[derive(Clone, Copy)]
 pub struct Lent {
     // whether a `len` waits, and how many cosines and sines there are
     pub cut: bool,
@@ -144,7 +144,7 @@ impl Lent {
 }
 
 // What the lines so far have set.
-#[derive(Drop)]
+#[derive(Clone, Copy)]
 pub struct Lending {
     pub directions: Directions,
     // what the next case is lent

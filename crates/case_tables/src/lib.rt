@@ -1,5 +1,6 @@
 // The lines that set a table. It is kept in one array, of which the first entries are lent. A line that a list may not have is
 // answered.
+#![tactic(auto)]
 pub mod directions;
 
 use crate::directions::Directions;
@@ -150,7 +151,7 @@ fn set_entries(line: Line, table: &mut [f32], all: Directions) -> bool {
 }
 
 // What the lines so far have set, but for the entries.
-#[derive(Drop)]
+#[derive(Clone, Copy)]
 pub struct Tables {
     directions: Directions,
     // how many entries the table has, STORED at most

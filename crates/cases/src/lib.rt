@@ -3,6 +3,7 @@
 // A list is text. A line that starts with `#` is a comment, and an empty line says nothing. Any other
 // line is a case: an operation of at most 8 lowercase letters and digits, then at most 40 words of at most
 // 8 lowercase hexadecimal digits, with one space before each and a newline at the end.
+#![tactic(auto)]
 ghost use Rattle.std.specs.Prelude.{◌≡◌};
 ghost use Rattle.cases.specs.Found.{found_of, left_of};
 
@@ -13,7 +14,7 @@ pub const MOST: usize = 40;
 pub type Words = [u32; MOST];
 
 // What the bytes of a line have been so far.
-#[derive(Drop)]
+#[derive(Clone, Copy)]
 pub enum Stage {
     // there are none
     Start,
@@ -28,7 +29,7 @@ pub enum Stage {
 }
 
 // What a line is.
-#[derive(Drop)]
+#[derive(Clone, Copy)]
 pub enum Found {
     // not at its end yet
     Open,
@@ -41,7 +42,7 @@ pub enum Found {
 }
 
 // A line as far as it was read.
-#[derive(Drop)]
+#[derive(Clone, Copy)]
 pub struct Line {
     // which line of the list it is, from 1
     pub number: u64,

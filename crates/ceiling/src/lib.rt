@@ -1,5 +1,6 @@
 // How good a job is already: its best so far, and the ceiling of the pairs still to come.
 // Its cases are in `ceiling_cases`.
+#![tactic(auto)]
 ghost use Rattle.std.specs.Prelude.{◌≡◌, cond, ◌<◌};
 ghost use Rattle.limits.specs.Answers.{value};
 ghost use Rattle.limits.specs.Refusals.{check_said};
@@ -63,7 +64,7 @@ fn tops_of(levels: usize, table: &[f32]) -> [f32; 169]
 }
 
 // The ceiling so far.
-#[derive(Drop)]
+#[derive(Clone, Copy)]
 enum Top {
     // no qualifying pair so far
     Absent,

@@ -1,5 +1,6 @@
 // Answers a list of cases for the crate `ceiling`: the best so far of a job with the ceiling of the pairs still to come.
 // `compare/driver/lists/ceiling.rs` says what the list holds.
+#![tactic(auto)]
 use case_lines::answers::Answer;
 use case_lines::words::size_at;
 use case_lines::{Reader, answers};
@@ -61,7 +62,7 @@ fn take_line(line: Line, entries: &[f32], length: usize, job: Job) -> Job {
 }
 
 // What the lines so far have set, but for the table's entries.
-#[derive(Drop)]
+#[derive(Clone, Copy)]
 struct State {
     tables: Tables,
     // the job that the next call is lent

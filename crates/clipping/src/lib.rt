@@ -1,13 +1,14 @@
 // A colour by lightness, chroma and direction, brought into the gamut of sRGB: `lch_to_srgb8_gamut_clipped` of
 // crates/lcr-core/src/color.rs.
 // Its cases are in `color_cases`.
+#![tactic(auto)]
 ghost use Rattle.std.specs.Prelude.{◌≡◌};
 ghost use Rattle.clipping.specs.Clip.{clipped_of};
 
 use srgb::Srgb8;
 
 // An 8-bit colour, and the chroma it ended at.
-#[derive(Drop)]
+#[derive(Clone, Copy)]
 pub struct Clipped {
     pub color: Srgb8,
     pub chroma: f32,

@@ -1,5 +1,6 @@
 // Answers a list of cases for the crates `roots`, `srgb`, `color`, `hue` and `clipping`: roots, conversions, the gamut test, hues and
 // clipped colours, by their bits, where every NaN is the same. `compare/driver/lists/color.rs` says what the list holds.
+#![tactic(auto)]
 mod conversions;
 mod hues;
 mod operations;

@@ -2,6 +2,7 @@
 // first element, then its length; what is written must overlap nothing else that is handed over. A bool is 0 or 1. A work buffer
 // has at least one entry for each position of the ring, 720 for a search or a set of levels; what it holds does not matter.
 // They are run by `compare/bench`.
+#![tactic(auto)]
 ghost use Rattle.std.specs.Prelude.{◌≡◌, map, ℕ, length};
 ghost use Rattle.limits.specs.Answers.{Untouched};
 ghost use Rattle.placement_rules.specs.Placing.{placement_says, tightest_beside};

@@ -1,6 +1,7 @@
 // The table of what a panel can show: for each lightness and hue the chroma that 40 halvings over the gamut test of sRGB end at.
 // `Gamut` and `max_chroma` of xtask/src/palette.rs, with lent directions and one row filled at a call.
 // Its cases are in `gamut_cases`.
+#![tactic(auto)]
 ghost use Rattle.std.specs.Prelude.{◌≡◌, ◌≤◌, length};
 ghost use Rattle.limits.specs.Answers.{value};
 ghost use Rattle.limits.specs.Refusals.{check_said};
@@ -11,7 +12,7 @@ use limits::{Checked, Refusal};
 
 // The shape of a table: rows of 720 entries, one for each level, lent as one slice. The calls take the slice itself; the type is where
 // the table constants stand.
-#[derive(Drop)]
+#[derive(Clone, Copy)]
 pub struct Gamut {
     // how many levels it has
     pub levels: usize,
@@ -60,7 +61,7 @@ pub fn check_table(table: &[f32]) -> Checked
 }
 
 // Whether a row was filled, or why not.
-#[derive(Drop)]
+#[derive(Clone, Copy)]
 pub enum Filling {
     // every entry of the row is written
     Filled,

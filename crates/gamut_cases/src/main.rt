@@ -1,5 +1,6 @@
 // Answers a list of cases for the crate `gamut`: entries, chromas found and lightnesses by their bits, and rows by their digest.
 // `compare/driver/lists/gamut.rs` says what the list holds.
+#![tactic(auto)]
 mod digest;
 mod rows;
 mod values;

@@ -1,5 +1,6 @@
 // The hue of a colour by lent directions: document 01's stand-in for `atan2`.
 // Its cases are in `color_cases`.
+#![tactic(auto)]
 ghost use Rattle.std.specs.Prelude.{◌≡◌, length, ◌≤◌, ◌<◌};
 ghost use Rattle.hue.specs.Hue.{side_at, changes, hue_of, hue_said, hue_says, color_hues, hues_said, hues_says, degrees_beside};
 
@@ -8,7 +9,7 @@ use limits::Refusal;
 use srgb::Srgb8;
 
 // A hue in degrees, or why none is given.
-#[derive(Drop)]
+#[derive(Clone, Copy)]
 pub enum Hue {
     // in degrees; 360 itself can occur
     Degrees(f32),
@@ -17,7 +18,7 @@ pub enum Hue {
 }
 
 // Whether the hues of some colours are given.
-#[derive(Drop)]
+#[derive(Clone, Copy)]
 pub enum Hued {
     // the degrees beside it are the hues
     Given,
@@ -26,7 +27,7 @@ pub enum Hued {
 }
 
 // An answer with the degrees beside it, zeros after the last colour's, and all zero where it is refused.
-#[derive(Drop)]
+#[derive(Clone, Copy)]
 pub struct Hues {
     pub answer: Hued,
     pub degrees: [f32; 32],

@@ -26,7 +26,7 @@ const NO_DIRECTION: u8 = 3;
 const GIVEN_TWICE: u8 = 4;
 
 // What the lines said.
-#[derive(Drop)]
+#[derive(Clone, Copy)]
 pub struct Said {
     // whether something is wrong, which was written
     wrong: bool,

@@ -10,7 +10,7 @@ const PAIRS: usize = 28561;
 const BETWEEN: usize = 2873;
 
 // What came of a search: the number of a refusal or 0, and the job.
-#[derive(Drop)]
+#[derive(Clone, Copy)]
 pub struct Searched {
     pub number: u8,
     pub job: Job,

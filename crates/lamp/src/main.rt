@@ -2,6 +2,7 @@
 // sRGB table, searches it with progress in lines, writes the page of the job for the service book, and the levels, hues, tightest
 // gap and chroma found with the limit beside the chroma; then, of that one design, what validation says of its sRGB colours at
 // that chroma, and the colours after back-off.
+#![tactic(auto)]
 mod book;
 mod colors;
 mod input;

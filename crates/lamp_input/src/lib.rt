@@ -1,5 +1,6 @@
 // The line `ask k gap` of the input of `lamp`, in decimal: how many hues, and how far apart the two levels must be, less 1.
 // Its case is the input of `lamp`.
+#![tactic(auto)]
 ghost use Rattle.std.specs.Prelude.{◌≡◌, true, List, ◌∷◌, [], ℕ, ◌+◌, ◌-◌, ◌*◌, ◌≤◌, ◌<◌, get_or};
 ghost use Rattle.ring_reading.specs.Numbers.{is_digit};
 ghost use Rattle.lamp_input.specs.Ask.{ask_of, gap_of, is_ask, goes_on, numbers_of, count_from, gap_from, whole_from, decimals_from};
@@ -9,7 +10,7 @@ ghost use Rattle.lamp_input.specs.Inner.{ask_said, rest, Within};
 const ASK: u64 = 0x6173_6b20;
 
 // What a line asks.
-#[derive(Drop)]
+#[derive(Clone, Copy)]
 pub enum Ask {
     // nothing: it is malformed
     Malformed,
@@ -18,7 +19,7 @@ pub enum Ask {
 }
 
 // What was read of a line so far, behind `ask` and a space.
-#[derive(Drop)]
+#[derive(Clone, Copy)]
 enum Part {
     // nothing
     Start,

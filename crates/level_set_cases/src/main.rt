@@ -1,5 +1,6 @@
 // Answers a list of cases for the crate `level_set`: the best of a set of levels with its tightest gap, the bits of its chroma, all of
 // its sixteen hues and the work buffer after a refusal. `compare/driver/lists/level_set.rs` says what the list holds.
+#![tactic(auto)]
 mod sets;
 
 use case_lines::words::size_at;
@@ -16,7 +17,7 @@ const LEVELS: u64 = 0x6c65_7665_6c73;
 const SET: u64 = 0x73_6574;
 
 // What the lines so far have set, but for the table's entries.
-#[derive(Drop)]
+#[derive(Clone, Copy)]
 struct State {
     tables: Tables,
     // the words of the line that lists the levels of a set

@@ -1,13 +1,15 @@
 // Document 01, "What a call can hand back", with what document 02 adds: the refusals with their numbers, and a check for each kind
 // of value that a caller lends.
 // Its cases are those of the crates that call it.
+#![tactic(auto)]
+
 ghost use Rattle.std.specs.Prelude.{◌≡◌, not};
 ghost use Rattle.limits.specs.Refusals.{number};
 ghost use Rattle.limits.specs.Taken.{outside, sign_clear, up_to, hue_count_taken, gap_taken, chroma_taken, entry_taken, direction_taken, root_operand_taken, hue_operand_taken, every, directions_taken};
 
 // Why a call was refused. The comment is document 01's number, from 18 on that of document 02, whose Req 04 words 8 and whose Req 05
 // adds to 2.
-#[derive(Drop)]
+#[derive(Clone, Copy)]
 pub enum Refusal {
     // 1: hue count k not 1 to 16
     HueCount,
@@ -50,7 +52,7 @@ pub enum Refusal {
 }
 
 // What some checks made one after the other found.
-#[derive(Drop)]
+#[derive(Clone, Copy)]
 pub enum Checked {
     // all pass
     Fine,

@@ -1,6 +1,7 @@
 // What is measured of a palette: the four metrics of `validate` of crates/lcr-core/src/palette.rs. Of the numbers that stand for
 // its colours the first k are of the dark level, and the k after them of the light one.
 // Its cases are in `palette_cases`.
+#![tactic(auto)]
 ghost use Rattle.std.specs.Prelude.{◌≡◌, false, ◌-◌, ◌≤◌, min, take, drop};
 ghost use Rattle.std.specs.Float.{inf, binary32};
 ghost use Rattle.std.specs.Float.Ieee.{sub};
@@ -8,7 +9,7 @@ ghost use Rattle.pair_rules.specs.Rows.{greater};
 ghost use Rattle.metrics.specs.Metrics.{highest, lowest, greatest, least, spread_in, absolute, apart, least_from, least_apart};
 
 // What is measured of a palette.
-#[derive(Drop)]
+#[derive(Clone, Copy)]
 pub struct Metrics {
     // the least lightness of the light level less the greatest of the dark one
     pub gap: f32,

@@ -1,5 +1,6 @@
 // Answers a list of cases for the crate `orientation`: the best with one hue fixed, with the bits of its chroma, its level indices and
 // all of its sixteen hues. `compare/driver/lists/orientation.rs` says what the list holds.
+#![tactic(auto)]
 use case_lines::answers::Answer;
 use case_lines::words::{float_at, size_at};
 use case_lines::{Reader, answers};

@@ -1,5 +1,6 @@
 // A page for the service book: a job laid out in lines of 40 bytes, each followed by a newline.
 // Its cases are in `page_cases`.
+#![tactic(auto)]
 ghost use Rattle.std.specs.Prelude.{◌≡◌, [], ◌∷◌, ◌*◌, ◌≤◌, length, take};
 ghost use Rattle.search_rules.specs.declared.Best.TheVariants.{Found};
 ghost use Rattle.text.specs.Put.{PutIn};
@@ -12,7 +13,7 @@ use limits::Refusal;
 use search_rules::{Best, Job};
 
 // What comes of laying a job out.
-#[derive(Drop)]
+#[derive(Clone, Copy)]
 pub enum Laid {
     // the page stands from byte 0 on; it has so many bytes
     Bytes(usize),

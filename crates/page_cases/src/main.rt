@@ -1,5 +1,6 @@
 // Answers a list of cases for the crate `page`: the page of a job as it is, after the number of a refusal, the count of its bytes, and
 // the digest of the whole buffer. `compare/driver/lists/page.rs` says what the list holds.
+#![tactic(auto)]
 mod pages;
 
 use case_lines::{Reader, answers};

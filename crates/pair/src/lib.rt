@@ -1,5 +1,6 @@
 // One pair: `best_for_levels` of xtask/src/palette.rs, over two lent rows; and the same over one row.
 // Its cases are in `pair_cases`, those of one row in `level_set_cases`.
+#![tactic(auto)]
 ghost use Rattle.std.specs.Prelude.{◌≡◌, [], ◌∷◌, ℕ, length, take};
 ghost use Rattle.limits.specs.Answers.{value, Untouched};
 ghost use Rattle.limits.specs.Refusals.{check_said};
@@ -69,7 +70,7 @@ fn found(chroma: f32, hues: [u16; 16], apart: usize) -> Chosen
 }
 
 // Where a halving stands.
-#[derive(Drop)]
+#[derive(Clone, Copy)]
 struct Bracket {
     // the ends
     lo: f32,

@@ -1,5 +1,6 @@
 // Answers a list of cases for the crate `pair`: the best of two rows with its tightest gap, the bits of its chroma, all of its
 // sixteen hues and the work buffer after a refusal. `compare/driver/lists/pair.rs` says what the list holds.
+#![tactic(auto)]
 mod best;
 mod rows;
 

@@ -14,7 +14,7 @@ const MORE: u64 = 0x6d6f_7265;
 const SAME: u64 = 0x7361_6d65;
 
 // The two rows.
-#[derive(Drop)]
+#[derive(Clone, Copy)]
 pub struct Rows {
     first: Row,
     second: Row,

@@ -1,9 +1,10 @@
 // What the best of a pair hands back, and that of a set of levels. The rule, over any number of rows, and what it means stand in
 // specs/ and proofs/; the code is the crates `pair` and `level_set`.
+#![tactic(auto)]
 use limits::Refusal;
 
 // The best of a pair, of one row, or of a set of levels.
-#[derive(Drop)]
+#[derive(Clone, Copy)]
 pub enum Answer {
     // the last chroma placed, with the first k of the hues beside it
     Found(f32),
@@ -14,7 +15,7 @@ pub enum Answer {
 }
 
 // An answer with its sixteen hues, zeros after the first k, and all zero where nothing is found.
-#[derive(Drop)]
+#[derive(Clone, Copy)]
 pub struct Chosen {
     pub answer: Answer,
     pub hues: [u16; 16],

@@ -2,6 +2,7 @@
 // of crates/lcr-core/src/palette.rs, with lent directions. Colours are brought into the gamut of sRGB and measured there, whatever
 // table their levels and hues were searched in.
 // Its cases are in `palette_cases`.
+#![tactic(auto)]
 ghost use Rattle.std.specs.Prelude.{◌≡◌, true, ◌≤◌, length, replicate};
 ghost use Rattle.limits.specs.Answers.{value};
 ghost use Rattle.limits.specs.Taken.{chroma_taken, directions_taken};
@@ -20,7 +21,7 @@ pub use palette_checks::Design;
 use srgb::Srgb8;
 
 // Whether a palette was derived.
-#[derive(Drop)]
+#[derive(Clone, Copy)]
 pub enum Derivation {
     // the colours beside it are the palette's
     Derived,
@@ -29,14 +30,14 @@ pub enum Derivation {
 }
 
 // An answer with its colours: dark hues first, then light ones, zeros after the 2k, and all zero where it is refused.
-#[derive(Drop)]
+#[derive(Clone, Copy)]
 pub struct Palette {
     pub answer: Derivation,
     pub colors: [Srgb8; 32],
 }
 
 // What can be wrong with a palette. The comment is document 01's number.
-#[derive(Drop)]
+#[derive(Clone, Copy)]
 pub enum Finding {
     // 1: gap below 40
     Gap,
@@ -49,14 +50,14 @@ pub enum Finding {
 }
 
 // The first finding, or none.
-#[derive(Drop)]
+#[derive(Clone, Copy)]
 pub enum Verdict {
     Passed,
     Found(Finding),
 }
 
 // What validation says.
-#[derive(Drop)]
+#[derive(Clone, Copy)]
 pub enum Validation {
     // the four metrics, and the first finding
     Measured(Metrics, Verdict),
@@ -65,7 +66,7 @@ pub enum Validation {
 }
 
 // What back-off says.
-#[derive(Drop)]
+#[derive(Clone, Copy)]
 pub enum BackOff {
     // the first chroma without a finding
     Passed(f32),
@@ -78,7 +79,7 @@ pub enum BackOff {
 }
 
 // An answer with the colours of the chroma that passed, and all zero where none did.
-#[derive(Drop)]
+#[derive(Clone, Copy)]
 pub struct BackedOff {
     pub answer: BackOff,
     pub colors: [Srgb8; 32],
@@ -171,7 +172,7 @@ fn hues_in(n: usize, colors: [Srgb8; 32], cos: &[f32], sin: &[f32]) -> [f32; 32]
 }
 
 // Lightness and chroma of colours, each in the place of its colour.
-#[derive(Drop)]
+#[derive(Clone, Copy)]
 struct Parts {
     l: [f32; 32],
     c: [f32; 32],

@@ -1,5 +1,6 @@
 // Answers a list of cases for the crates `palette`, `metrics` and `palette_checks`: derivations, validations and back-offs with the bits
 // of their metrics or chroma and all of their 32 colours. `compare/driver/lists/palette.rs` says what the list holds.
+#![tactic(auto)]
 mod calls;
 mod colors;
 
@@ -16,7 +17,7 @@ const DESIGN: u64 = 0x6465_7369_676e;
 const COLORS: u64 = 0x636f_6c6f_7273;
 
 // What the lines so far have set.
-#[derive(Drop)]
+#[derive(Clone, Copy)]
 struct State {
     lending: Lending,
     design: Design,

@@ -1,5 +1,6 @@
 // What a palette is derived from, and what derivation and back-off refuse: numbers 1, 3, 9, 11 and 12.
 // Its cases are in `palette_cases`.
+#![tactic(auto)]
 ghost use Rattle.std.specs.Prelude.{◌≡◌};
 ghost use Rattle.limits.specs.Answers.{value};
 ghost use Rattle.limits.specs.Refusals.{check_said};
@@ -9,7 +10,7 @@ use gamut::Gamut;
 use limits::{Checked, Refusal};
 
 // What a palette is derived from, but for its chroma.
-#[derive(Drop)]
+#[derive(Clone, Copy)]
 pub struct Design {
     // how many hues
     pub k: usize,

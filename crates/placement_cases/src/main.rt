@@ -1,6 +1,7 @@
 // Answers a list of cases for the crates `placement` and `placement_checks`: steps, placements with their tightest gap, all of their
 // sixteen hues and the work buffer after a refusal, and sweeps by their digest. `compare/driver/lists/placement.rs` says what the list
 // holds.
+#![tactic(auto)]
 mod places;
 mod sweeps;
 

@@ -9,7 +9,7 @@ use case_lines::{digest, work_buffer};
 use cases::{Line, Words};
 
 // The digest of the answers so far, and the seed of what the next work buffer holds.
-#[derive(Drop)]
+#[derive(Clone, Copy)]
 struct Sum {
     digest: u64,
     seed: u32,

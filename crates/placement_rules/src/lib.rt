@@ -1,9 +1,10 @@
 // What a placement of k hues on a ring hands back. The rule, and what it means, stand in specs/ and proofs/; the code is the crate
 // `placement`.
+#![tactic(auto)]
 use limits::Refusal;
 
 // Whether the hues were placed.
-#[derive(Drop)]
+#[derive(Clone, Copy)]
 pub enum Answer {
     // the first k of the hues beside it
     Placed,
@@ -14,7 +15,7 @@ pub enum Answer {
 }
 
 // An answer with its sixteen hues, zeros after the first k, and all zero where nothing is placed.
-#[derive(Drop)]
+#[derive(Clone, Copy)]
 pub struct Placement {
     pub answer: Answer,
     pub hues: [u16; 16],
@@ -23,7 +24,7 @@ pub struct Placement {
 }
 
 // The step for a hue count, or why there is none.
-#[derive(Drop)]
+#[derive(Clone, Copy)]
 pub enum Stepping {
     // ceil(600 / k) + 1
     Is(usize),

@@ -1,8 +1,9 @@
 // The program `ring`: for each line of standard input, which asks for a placement on a ring, it writes a line with the answer
 // to standard output. What is read and what is written of it is the crate `ring_lines`; here bytes are only moved.
+#![tactic(auto)]
 
 // How far the input was read.
-#[derive(Drop)]
+#[derive(Clone, Copy)]
 struct State {
     // how many bytes of the line that is not at its end are held
     held: usize,

@@ -1,5 +1,6 @@
 // The answer to a line: what is said to it, and the bytes of that.
 // Its cases are the lines of `ring`.
+#![tactic(auto)]
 ghost use Rattle.std.specs.Prelude.{◌≡◌, ◌≤◌, length, take};
 ghost use Rattle.limits.specs.Answers.{refused};
 ghost use Rattle.limits.specs.Refusals.{number};
@@ -13,7 +14,7 @@ use placement::{Answer, Placement};
 use ring_reading::Reading;
 
 // What is said to a line: a placement of k hues, none, or a refusal.
-#[derive(Drop)]
+#[derive(Clone, Copy)]
 struct Saying {
     k: usize,
     placement: Placement,

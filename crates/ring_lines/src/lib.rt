@@ -1,12 +1,13 @@
 // An input that arrives in pieces, cut into lines, and the answers to them.
 // Its cases are the lines of `ring`.
+#![tactic(auto)]
 ghost use Rattle.std.specs.Prelude.{◌≡◌, cond, [], length};
 ghost use Rattle.text.specs.Put.{PutIn, Laid};
 ghost use Rattle.ring_lines.specs.Pieces.{kept_in, answer_kept, written_at_end};
 ghost use Rattle.ring_lines.specs.Promised.{Held, Answered};
 
 // How far a piece was taken.
-#[derive(Drop)]
+#[derive(Clone, Copy)]
 pub struct Progress {
     // how many of its bytes were taken
     pub taken: usize,

@@ -1,5 +1,6 @@
 // The reading of a line: what it asks, or that it is malformed.
 // Its cases are the lines of `ring`.
+#![tactic(auto)]
 ghost use Rattle.std.specs.Prelude.{◌≡◌, true, List, ℕ, ◌+◌, ◌-◌, ◌≤◌, get_or};
 ghost use Rattle.ring_reading.specs.Numbers.{is_digit};
 ghost use Rattle.ring_reading.specs.Fields.{malformed, line_of};
@@ -7,7 +8,7 @@ ghost use Rattle.ring_reading.specs.Reads.{no_row, LineRead};
 ghost use Rattle.ring_reading.specs.Inner.{fields_from, Bytes, Finds, Heads, entries_of, with_entries};
 
 // What a line asks.
-#[derive(Drop)]
+#[derive(Clone, Copy)]
 pub enum Reading {
     // nothing: it is malformed
     Malformed,
@@ -21,7 +22,7 @@ pub enum Reading {
 }
 
 // What was read of a line.
-#[derive(Drop)]
+#[derive(Clone, Copy)]
 pub struct Asked {
     // what it asks
     pub reading: Reading,
@@ -30,7 +31,7 @@ pub struct Asked {
 }
 
 // What a place of a line holds.
-#[derive(Drop)]
+#[derive(Clone, Copy)]
 enum Field {
     // a number, and the place where the next field starts, past the line's end where there is none
     Number(u16, usize),
@@ -39,7 +40,7 @@ enum Field {
 }
 
 // The four numbers before the entries.
-#[derive(Drop)]
+#[derive(Clone, Copy)]
 enum Head {
     // all four, and the place where the entries start, past the line's end where there is none
     Four {

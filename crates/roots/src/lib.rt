@@ -2,6 +2,7 @@
 // operand is normalised by the leading zeros of its fraction bits, and 25 binary digits of the root are taken, one a turn,
 // with a running remainder, which keeps the cube root inside 64 bits.
 // Its cases are in `color_cases`.
+#![tactic(auto)]
 ghost use Rattle.std.specs.Prelude.{◌≡◌, ◌⊎◌, ◌+◌, ◌*◌, ◌^◌, ◌≤◌, ◌<◌};
 ghost use Rattle.halving.specs.Patterns.{worth, least, half_way};
 ghost use Rattle.roots.specs.Roots.{said, root_says};
@@ -9,7 +10,7 @@ ghost use Rattle.roots.specs.Roots.{said, root_says};
 use limits::Refusal;
 
 // The root, or why none is taken.
-#[derive(Drop)]
+#[derive(Clone, Copy)]
 pub enum Root {
     // the f32 nearest the exact root
     Is(f32),
@@ -18,7 +19,7 @@ pub enum Root {
 }
 
 // The operand as significand × 2 ^ exponent, in units of 2 ^ -172.
-#[derive(Drop)]
+#[derive(Clone, Copy)]
 struct Scaled {
     significand: u64,
     exponent: u32,

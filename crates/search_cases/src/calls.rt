@@ -74,7 +74,7 @@ fn answer_search(line: Line, table: &[f32], work: &mut [u16], lent: Job) -> Job 
 }
 
 // What came out of steps so far: the digest of them all, that of the work buffers after those that were refused, and the last job.
-#[derive(Drop)]
+#[derive(Clone, Copy)]
 struct Sum {
     digest: u64,
     left: u64,

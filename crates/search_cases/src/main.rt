@@ -1,5 +1,6 @@
 // Answers a list of cases for the crates `search` and `search_checks`: starts, steps and whole searches with the job after them, all
 // steps of a run by a digest, and the work buffer after a refusal. `compare/driver/lists/search.rs` says what the list holds.
+#![tactic(auto)]
 mod calls;
 
 use case_lines::{Reader, answers};
@@ -8,7 +9,7 @@ use cases::Line;
 use search::Job;
 
 // What the lines so far have set, but for the table's entries.
-#[derive(Drop)]
+#[derive(Clone, Copy)]
 struct State {
     tables: Tables,
     // the job that the next call is lent

@@ -1,6 +1,7 @@
 // What a start and a step refuse before they read a row, numbers 1, 2, 6, 7 and 15, 14, 6, 8, whether a record is broken, and whether
 // a pair of levels is far enough apart to be read.
 // Its cases are in `search_cases`.
+#![tactic(auto)]
 ghost use Rattle.std.specs.Prelude.{◌≡◌, ◌&&◌};
 ghost use Rattle.limits.specs.Answers.{value};
 ghost use Rattle.limits.specs.Refusals.{check_said};

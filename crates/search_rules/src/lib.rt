@@ -1,9 +1,10 @@
 // The job that searches every pair of levels: its record, and what a call hands back. The rules of start and step, and the theorem
 // over whole runs, stand in specs/ and proofs/; the code is the crate `search`.
+#![tactic(auto)]
 use limits::Refusal;
 
 // What a start sets.
-#[derive(Drop)]
+#[derive(Clone, Copy)]
 pub struct Settings {
     // how many hues
     pub k: usize,
@@ -12,7 +13,7 @@ pub struct Settings {
 }
 
 // The best so far; its hues stand beside it in the job.
-#[derive(Drop)]
+#[derive(Clone, Copy)]
 pub enum Best {
     // none so far
     None,
@@ -21,7 +22,7 @@ pub enum Best {
 }
 
 // A search, as it stands after some of its steps.
-#[derive(Drop)]
+#[derive(Clone, Copy)]
 pub struct Job {
     pub settings: Settings,
     // how many levels the table has
@@ -37,7 +38,7 @@ pub struct Job {
 }
 
 // Whether a call was accepted.
-#[derive(Drop)]
+#[derive(Clone, Copy)]
 pub enum Answer {
     // the job beside it is the new one
     Accepted,
@@ -46,7 +47,7 @@ pub enum Answer {
 }
 
 // An answer with the job after the call.
-#[derive(Drop)]
+#[derive(Clone, Copy)]
 pub struct Outcome {
     pub answer: Answer,
     pub job: Job,

@@ -1,12 +1,13 @@
 // sRGB as IEC 61966-2-1 has it, in the form document 01 gives: 8-bit colours, linear light, and the gamut test. Names, structure and
 // order of operations follow crates/lcr-core/src/color.rs.
 // Its cases are in `color_cases`.
+#![tactic(auto)]
 ghost use Rattle.std.specs.Prelude.{◌≡◌};
 ghost use Rattle.srgb.specs.Channels.{clamp_to, gamut_channel, clamped_of, in_gamut, srgb8_to_linear, linear_to_srgb8};
 ghost use Rattle.srgb.specs.Parts.{from_hex, to_hex};
 
 // Non-linear sRGB, 0 to 255 in each channel.
-#[derive(Drop)]
+#[derive(Clone, Copy)]
 pub struct Srgb8 {
     pub r: u8,
     pub g: u8,
@@ -14,7 +15,7 @@ pub struct Srgb8 {
 }
 
 // Linear-light RGB, nominally 0 to 1 but unclamped.
-#[derive(Drop)]
+#[derive(Clone, Copy)]
 pub struct Linear {
     pub r: f32,
     pub g: f32,

@@ -1,0 +1,9 @@
+-- `lamp::numbers::decimals` is safe and ends: it counts the decimals. Assumes nothing.
+use Rattle.std.proofs.Common.{◌-◌}
+use Rattle.lamp.proofs.numbers.decimals.Given as goal
+
+abbrev pub invariant-loop-i : goal.invariant-loop-i
+invariant-loop-i l = Unit {0}
+
+abbrev pub decreases-loop-i : goal.decreases-loop-i
+decreases-loop-i l = l.most - l.i

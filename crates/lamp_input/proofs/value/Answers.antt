@@ -1,0 +1,11 @@
+-- `lamp_input::value` meets its contract. Assumes nothing.
+use mathlib.Core.Path.{refl}
+use native.Mathlib.Omega.{arith}
+use Rattle.ring_reading.proofs.Numbers.{digit_range}
+use Rattle.lamp_input.proofs.value.Goals as goal
+
+pub overflow_sub-result : goal.overflow_sub-result
+overflow_sub-result c = let r = digit_range _ c.requires in omega arith
+
+pub returns : goal.returns
+returns c = let r = digit_range _ c.requires in (refl, omega arith)

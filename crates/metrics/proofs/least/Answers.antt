@@ -1,0 +1,29 @@
+-- `metrics::least` meets its contract. The invariant: the least of what is left and of the least so far is the least of all. Assumes nothing.
+use mathlib.Core.Path.{◌≡◌, ap, ◌∙◌}
+use mathlib.Core.Logic.{⊎_elim}
+use Prim.Native.Nat.{◌+◌, ◌-◌}
+use native.Mathlib.Omega.{arith}
+use lib.Ieee.{Float, nan}
+use lib.ListN.{length, get_or}
+use Rattle.pair_rules.specs.Rows.{lesser}
+use Rattle.metrics.specs.Metrics.{least}
+use Rattle.metrics.proofs.Folds.{left_at, fold_next, fold_done}
+use Rattle.metrics.proofs.least.Goals as goal
+
+pub loop-i-preserved : goal.loop-i-preserved
+unfolding lesser
+loop-i-preserved c =
+    let l = c.before.before in
+    let a = l.args in
+    let values = a.t2 in
+    let i = l.loop-i.i in
+    let long : length values ≡ 32 = omega arith in
+    let so : c.if-v-lo.lo ≡ lesser l.loop-i.lo (get_or values i nan) = ⊎_elim (λ t. rw (t.1, t.0.taken)) (λ t. rw (t.1, t.0.left)) c.if-v-lo.branch in
+    ap (λ (x : Float). least x (left_at values a.to (i + 1))) so ∙ fold_next lesser values l.loop-i.lo (least a.from (left_at values a.to a.at)) a.to i l.loop-i.invariant (omega arith) (omega arith)
+
+pub returns : goal.returns
+returns c =
+    let l = c.before in
+    let a = l.args in
+    let values = a.t2 in
+    fold_done lesser values l.loop-i.lo (least a.from (left_at values a.to a.at)) a.to l.loop-i.i l.loop-i.invariant (omega arith)

@@ -1,0 +1,66 @@
+-- `orientation::best_at_orientation` meets its contract: the check says what is refused, and the rest is the best of all dark levels. Assumes nothing.
+use mathlib.Core.Path.{◌≡◌, refl, sym, ap, ◌∙◌, subst}
+use mathlib.Core.List.{List}
+use Prim.Native.Nat.{ℕ, ◌<◌}
+use lib.Ieee.{Float, nan}
+use Rattle.limits.specs.Answers.{value, refused, pass}
+use Rattle.limits.specs.Refusals.{number, check_said}
+use Rattle.limits.specs.Each.{Each, F32}
+use Rattle.limits.specs.declared.Refusal.{Refusal}
+use Rattle.limits.specs.declared.Checked.{Checked}
+use Rattle.limits.specs.declared.Checked.TheVariants.{Fine, Wrong}
+use Rattle.limits.proofs.Checks.{fine, wrong}
+use Rattle.limits.proofs.Lists.{each_at}
+use Rattle.orientation_rules.specs.Orientation.{Best, none, found, best_fixed, orientation_checked, orientation_says, Gives}
+use Rattle.orientation_rules.specs.Fixed.{OrientationTaken}
+use Rattle.orientation_rules.proofs.Accepted.{orientation_checks, orientation_only}
+use Rattle.orientation_rules.proofs.Meaning.{found_greatest}
+use Rattle.orientation.specs.Inner.{best_of, PartnerIn}
+use Rattle.orientation.proofs.best_at_orientation.Goals as goal
+
+-- ---- by what the check found
+module _ (gap : Float) (t : List Float) (hue : ℕ) (r : Checked) (says : check_said r ≡ orientation_checked gap t hue pass) where
+  refusing : (w : Refusal) → r ≡ Wrong w → orientation_says gap t hue ≡ refused (number w)
+  unfolding orientation_says orientation_checked
+  refusing w f = wrong (orientation_checks gap t hue) r says (value (best_fixed gap t hue)) w f
+
+  passing : r ≡ Fine → orientation_says gap t hue ≡ value (best_fixed gap t hue)
+  unfolding orientation_says orientation_checked
+  passing f = fine (orientation_checks gap t hue) r says (value (best_fixed gap t hue)) f
+
+  taken : r ≡ Fine → OrientationTaken gap t hue
+  taken f = (orientation_only gap t hue (best_fixed gap t hue) (passing f)).0
+
+-- the partner of what is found is a hue
+partner_in : (gap : Float) (t : List Float) (hue : ℕ) → OrientationTaken gap t hue → Each F32 t → (best : Best) → best_fixed gap t hue ≡ best → PartnerIn best
+partner_in gap t hue h f32 none e = tt
+partner_in gap t hue h f32 (found c d l p) e = let g = found_greatest gap t hue h f32 c d l p e in subst (λ (n : ℕ). n < 720) g.partner_is g.choice.partner_in
+
+pub over_dark-requires : goal.over_dark-requires
+over_dark-requires c =
+    let k = c.before.before in
+    let s = k.before in
+    let a = s.args in
+    record { taken = taken a.gap a.table.now a.hue k.check-checked.result k.check-checked.ensures c.in-Fine.is; f32 = each_at F32 nan a.table.now s.shared_slice_known-1.given }
+
+pub handed-requires : goal.handed-requires
+handed-requires c =
+    let k = c.before.before.before in
+    let s = k.before in
+    let a = s.args in
+    let h = taken a.gap a.table.now a.hue k.check-checked.result k.check-checked.ensures c.in-Fine.is in
+    record { hue_in = h.hue_in; partner_in = partner_in a.gap a.table.now a.hue h (each_at F32 nan a.table.now s.shared_slice_known-1.given) (best_of c.over_dark.result) (sym c.over_dark.ensures) }
+
+pub returns-in-Wrong : goal.returns-in-Wrong
+returns-in-Wrong c =
+    let k = c.before.before.before in
+    let a = k.args in
+    let e = refusing a.gap a.table.now a.hue k.check-checked.result k.check-checked.ensures c.in-Wrong.why c.in-Wrong.is in
+    subst (Gives _ a.hue) (sym e) (record { says = refl; beside = refl })
+
+pub returns-in-Fine : goal.returns-in-Fine
+returns-in-Fine c =
+    let k = c.before.before.before.before in
+    let a = k.args in
+    let e = passing a.gap a.table.now a.hue k.check-checked.result k.check-checked.ensures c.in-Fine.is in
+    subst (Gives c.handed.result a.hue) (ap value c.over_dark.ensures ∙ sym e) c.handed.ensures

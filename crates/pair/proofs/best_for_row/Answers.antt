@@ -1,0 +1,32 @@
+-- `pair::best_for_row` meets its contract: the check says what is refused, and `from_floor` the rest. Assumes nothing.
+use mathlib.Core.Path.{refl, sym, ap, ◌∙◌, subst}
+use lib.ListN.{length}
+use Rattle.limits.specs.Refusals.{check_said}
+use Rattle.limits.proofs.Checks.{said_twice}
+use Rattle.pair_rules.specs.Pair.{Gives}
+use Rattle.pair.proofs.Checking.{one_refusing, one_passing}
+use Rattle.pair.proofs.best_for_row.Goals as goal
+
+pub from_floor-requires : goal.from_floor-requires
+from_floor-requires c =
+    let o = c.before.before in
+    let k = o.before.before in
+    record { fine = sym k.check-checked.ensures ∙ ap check_said o.in-Fine.is; top = c.largest.ensures }
+
+pub returns-in-Wrong : goal.returns-in-Wrong
+returns-in-Wrong c =
+    let k = c.before.before.before in
+    let a = k.args in
+    let e = one_refusing a.k a.step a.floor a.row.now (length a.work.now) k.check-checked.result k.check-checked.ensures c.in-Wrong.refusal c.in-Wrong.is in
+    (subst (Gives (length a.row.now) a.k _) (sym e) (record { says = refl; beside = refl; tightest_is = refl }), λ w again. refl)
+-- ASKED ['gives', 'untouched']
+
+pub returns-in-Fine : goal.returns-in-Fine
+returns-in-Fine c =
+    let f = c.before.before in
+    let o = f.before.before.before in
+    let k = o.before.before in
+    let a = k.args in
+    let e = one_passing a.k a.step a.floor a.row.now (length a.work.now) k.check-checked.result k.check-checked.ensures o.in-Fine.is in
+    (subst (Gives (length a.row.now) a.k f.from_floor.result) (sym e) f.from_floor.ensures, λ w again. said_twice e again)
+-- ASKED ['gives', 'untouched']

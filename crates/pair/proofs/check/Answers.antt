@@ -1,0 +1,28 @@
+-- `pair::check` meets its contract: unequal rows are refused as a row without entries is, and equal ones by what the second or else the first is. Assumes nothing.
+use mathlib.Core.Path.{refl}
+use borrow.Author.Rules.{rules}
+use Rattle.pair.proofs.Checking.{unequal, second_refused, first_says}
+use Rattle.pair.proofs.check.Goals as goal
+
+-- LEFT part-check-start : tie.Need-slice-bounds-check-start
+-- part-check-start c = search rules
+
+-- LEFT part-check-end : tie.Need-slice-bounds-check-end
+-- part-check-end c = search rules
+
+pub returns-then-a-b : goal.returns-then-a-b
+returns-then-a-b c =
+    let a = c.args in
+    unequal a.k a.step a.floor a.a.now a.b.now a.room c.check.result _ c.if-a-b.true refl c.check.ensures
+
+pub returns-in-Wrong : goal.returns-in-Wrong
+returns-in-Wrong c =
+    let k = c.before.before.before in
+    let a = k.args in
+    second_refused a.k a.step a.floor a.a.now a.b.now a.room k.if-a-b.false k.check-second.result k.check-second.ensures c.in-Wrong.why c.in-Wrong.is
+
+pub returns-in-Fine : goal.returns-in-Fine
+returns-in-Fine c =
+    let k = c.before.before.before in
+    let a = k.args in
+    first_says a.k a.step a.floor a.a.now a.b.now a.room k.if-a-b.false k.check-second.result k.check-second.ensures c.check-in-Fine.result c.in-Fine.is c.check-in-Fine.ensures

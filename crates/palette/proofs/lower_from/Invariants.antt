@@ -1,0 +1,15 @@
+-- `palette::lower_from` meets its contract. The invariant: from the chroma at hand, with the last finding, back-off ends where it ends from the first. The measure is the bit
+use mathlib.Core.Path.{◌≡◌}
+use Prim.Native.Nat.{ℕ}
+use lib.Ieee.{binary32, to_bits}
+use Rattle.limits.specs.Answers.{value}
+use Rattle.palette.specs.BackOff.{lastly, end_after, end_of, judge_at, back_off_said}
+use Rattle.palette.proofs.Lowering.{Low}
+use Rattle.palette.proofs.lower_from.Given as goal
+
+abbrev pub invariant-loop-last : goal.invariant-loop-last
+invariant-loop-last l = 
+    Low l.c × ((n : ℕ) × ((back_off_said l.last ≡ value (lastly n)) × (end_after (judge_at l.design l.cos l.sin) l.c n ≡ end_of (judge_at l.design l.cos l.sin) l.chroma)))
+
+abbrev pub decreases-loop-last : goal.decreases-loop-last
+decreases-loop-last l = to_bits binary32 l.c

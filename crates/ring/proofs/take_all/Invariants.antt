@@ -1,0 +1,8 @@
+-- `ring::take_all` is safe and ends: the measure is the number of turns that are left. Assumes nothing.
+use Rattle.ring.proofs.take_all.Given as goal
+
+abbrev pub invariant-loop-turns : goal.invariant-loop-turns
+invariant-loop-turns l = Unit {0}
+
+abbrev pub decreases-loop-turns : goal.decreases-loop-turns
+decreases-loop-turns l = l.turns

@@ -1,0 +1,10 @@
+-- `roots::cbrt` meets its contract: it is the root of its degree. Assumes nothing.
+use mathlib.Core.Path.{refl}
+use mathlib.Core.Logic.{inr}
+use Rattle.roots.proofs.cbrt.Goals as goal
+
+pub root_of-requires : goal.root_of-requires
+root_of-requires c = inr refl
+
+pub returns : goal.returns
+returns c = c.root_of.ensures

@@ -1,0 +1,73 @@
+-- `search::search` meets its contract: the check of a start says what is refused first, then the room, and the rest is all the steps. Assumes nothing.
+use mathlib.Core.Path.{◌≡◌, refl, ap, ◌∙◌}
+use mathlib.Core.Bool.{cond}
+use mathlib.Core.List.{List}
+use Prim.Native.Nat.{ℕ, ◌*◌, ◌/◌, ◌≤◌, ◌<◌}
+use native.Mathlib.Omega.{arith}
+use lib.Dec.{leb}
+use lib.Ieee.{Float}
+use lib.ListN.{length}
+use borrow.Author.Tests.{le-leb, lt-leb}
+use Rattle.limits.specs.Answers.{Said, value, refused}
+use Rattle.limits.proofs.Checks.{said_twice}
+use Rattle.gamut.specs.Table.{levels_in}
+use Rattle.placement_rules.specs.Placing.{work_needed}
+use Rattle.search_rules.specs.declared.Settings.{Settings}
+use Rattle.search_rules.specs.declared.Job.{Job}
+use Rattle.search_rules.specs.Job.{begun, steps_from, search_says}
+use Rattle.search_rules.proofs.Unbroken.{square}
+use Rattle.search.proofs.Checking.{start_fine, start_wrong, start_levels}
+use Rattle.search.proofs.Giving.{accepting, refusing}
+use Rattle.search.proofs.search.Goals as goal
+
+-- what follows the checks of a start: the work buffer, and then all the steps
+module _ (s : Settings) (table : List Float) (room : ℕ) where
+  abbrev checked_room : Said Job
+  checked_room = cond (leb (work_needed 720) room) (value (steps_from (levels_in table * levels_in table) (begun s (levels_in table)) table room)) (refused 8)
+
+  too_little : room < work_needed 720 → checked_room ≡ refused 8
+  too_little h = rw (lt-leb (work_needed 720) room h)
+
+  enough : work_needed 720 ≤ room → checked_room ≡ value (steps_from (levels_in table * levels_in table) (begun s (levels_in table)) table room)
+  enough h = rw (le-leb (work_needed 720) room h)
+
+pub returns-then-work-lt-HUES : goal.returns-then-work-lt-HUES
+unfolding search_says work_needed
+returns-then-work-lt-HUES c =
+    let k = c.before.before.before.before in
+    let a = k.args in
+    let room = length a.work.now in
+    let e = start_fine a.settings a.table.now k.check_start-checked.result k.check_start-checked.ensures (checked_room a.settings a.table.now room) c.in-Fine.is ∙ too_little a.settings a.table.now room c.if-work-lt-HUES.true in
+    (refusing e c.refuse-then-work-lt-HUES.ensures, λ w again. refl)
+-- ASKED ['gives', 'untouched']
+
+pub overflow_mul-levels : goal.overflow_mul-levels
+unfolding levels_in
+overflow_mul-levels c =
+    let k = c.before.before.before.before.before in
+    let a = k.args in
+    let few = (start_levels a.settings a.table.now k.check_start-checked.result k.check_start-checked.ensures c.in-Fine.is).few_levels in
+    let most = square (length a.table.now / 720) few in
+    omega arith
+
+pub returns-in-Wrong : goal.returns-in-Wrong
+unfolding search_says
+returns-in-Wrong c =
+    let k = c.before.before.before.before in
+    let a = k.args in
+    let e = start_wrong a.settings a.table.now k.check_start-checked.result k.check_start-checked.ensures (checked_room a.settings a.table.now (length a.work.now)) c.in-Wrong.why c.in-Wrong.is in
+    (refusing e c.refuse.ensures, λ w again. refl)
+-- ASKED ['gives', 'untouched']
+
+pub returns-else-work-lt-HUES : goal.returns-else-work-lt-HUES
+unfolding search_says levels_in work_needed
+returns-else-work-lt-HUES c =
+    let k = c.before.before.before.before.before.before.before.before.before in
+    let a = k.args in
+    let table = a.table.now in
+    let room = length a.work.now in
+    let n = levels_in table in
+    let e = start_fine a.settings table k.check_start-checked.result k.check_start-checked.ensures (checked_room a.settings table room) c.in-Fine.is ∙ enough a.settings table room c.if-work-lt-HUES.false in
+    let last = c.take_steps.ensures ∙ ap (λ (j : Job). steps_from (n * n) j table room) c.begin.ensures in
+    (accepting a.job last e c.accept.ensures, λ w again. said_twice e again)
+-- ASKED ['gives', 'untouched']
