@@ -6,7 +6,7 @@ use Prim.Native.Nat.{◌*◌}
 use native.Mathlib.Omega.{arith}
 use lib.Ieee.{Float}
 use lib.ListN.{length}
-use borrow.Author.Tests.{eq-eqb, ne_eqb, not-true, not-false}
+use borrow.Author.Tests.{eq-eqb, ne_eqb}
 use Rattle.limits.specs.Answers.{Said, value, refused}
 use Rattle.limits.specs.Taken.{entry_taken, every}
 use Rattle.search_rules.specs.declared.Job.{Job}
@@ -38,25 +38,22 @@ module _ (j : Job) (t : List Float) where
       fine f = rw (one, eq-eqb (length t) (j.levels * 720) two, f)
 
 pub returns-then-not-is_unbroken : goal.returns-then-not-is_unbroken
-returns-then-not-is_unbroken c = first _ _ (sym c.is_unbroken.ensures ∙ not-true _ c.if-not-is_unbroken.true)
-
-one : (c : goal.Else-not-is_unbroken) → unbroken c.args.job ≡ true
-one c = sym c.is_unbroken.ensures ∙ not-false _ c.if-not-is_unbroken.false
+returns-then-not-is_unbroken c = first _ _ (sym c.is_unbroken.ensures ∙ c.if-not-is_unbroken.true)
 
 pub overflow_mul-job : goal.overflow_mul-job
 overflow_mul-job c =
-    let few = (sound c.args.job (one c.before)).few_levels in
+    let few = (sound c.args.job (let it : unbroken c.before.args.job ≡ true = sym c.before.is_unbroken.ensures ∙ c.before.if-not-is_unbroken.false in it)).few_levels in
     omega arith
 
 pub returns-then-table-job : goal.returns-then-table-job
-returns-then-table-job c = second _ _ (one c.before.before) c.if-table-job.true
+returns-then-table-job c = second _ _ (let it : unbroken c.before.before.args.job ≡ true = sym c.before.before.is_unbroken.ensures ∙ c.before.before.if-not-is_unbroken.false in it) c.if-table-job.true
 
 pub returns-then-not-takes_entries : goal.returns-then-not-takes_entries
 returns-then-not-takes_entries c =
     let e = c.before.before in
-    third _ _ (one e.before.before) e.if-table-job.false (sym c.takes_entries.ensures ∙ not-true _ c.if-not-takes_entries.true)
+    third _ _ (let it : unbroken e.before.before.args.job ≡ true = sym e.before.before.is_unbroken.ensures ∙ e.before.before.if-not-is_unbroken.false in it) e.if-table-job.false (sym c.takes_entries.ensures ∙ c.if-not-takes_entries.true)
 
 pub returns : goal.returns
 returns c =
     let e = c.before.before in
-    fine _ _ (one e.before.before) e.if-table-job.false (sym c.takes_entries.ensures ∙ not-false _ c.if-not-takes_entries.false)
+    fine _ _ (let it : unbroken e.before.before.args.job ≡ true = sym e.before.before.is_unbroken.ensures ∙ e.before.before.if-not-is_unbroken.false in it) e.if-table-job.false (sym c.takes_entries.ensures ∙ c.if-not-takes_entries.false)

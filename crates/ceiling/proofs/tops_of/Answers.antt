@@ -4,7 +4,6 @@ use Prim.Native.Nat.{ℕ, ◌-◌, ◌<◌}
 use native.Mathlib.Nat.{not-suc-le-zero}
 use native.Mathlib.Omega.{arith}
 use lib.ListN.{length-set}
-use borrow.Author.Rules.{rules}
 use Rattle.gamut.specs.Table.{row_at}
 use Rattle.gamut.proofs.Table.{part_row, row_long, row_taken, row_f32}
 use Rattle.pair_rules.specs.Rows.{largest}
@@ -13,12 +12,6 @@ use Rattle.ceiling.proofs.tops_of.Goals as goal
 
 pub loop-i-init : goal.loop-i-init
 loop-i-init c = (omega arith, refl, λ p l. absurd (not-suc-le-zero l))
-
--- LEFT part-largest-of-start : tie.Need-slice-bounds-largest-of-start invariant-loop decreases-loop
--- part-largest-of-start c = search rules
-
--- LEFT part-largest-of-end : tie.Need-slice-bounds-largest-of-end invariant-loop decreases-loop
--- part-largest-of-end c = omega arith
 
 pub largest_of-requires : goal.largest_of-requires
 largest_of-requires c =

@@ -2,7 +2,6 @@
 use mathlib.Core.Path.{◌≡◌, sym, ◌∙◌}
 use mathlib.Core.Bool.{Bool, true, false, cond}
 use lib.Ieee.{Float, lt}
-use borrow.Author.Tests.{not-true, not-false}
 use Rattle.pair_rules.specs.Rows.{lesser}
 use Rattle.search_rules.specs.Job.{qualifies}
 use Rattle.ceiling_rules.specs.Ceiling.{Ceiling, raised}
@@ -22,18 +21,17 @@ module _ (b : Bool) (q : b ≡ true) (x y : Float) (next so : Ceiling) where
   first h e = rw (q, h) e
 
 pub returns-then-not-qualifies : goal.returns-then-not-qualifies
-returns-then-not-qualifies c = passed _ _ _ (sym c.qualifies.ensures ∙ not-true _ c.if-not-qualifies.true)
+returns-then-not-qualifies c = passed _ _ _ (sym c.qualifies.ensures ∙ c.if-not-qualifies.true)
 
 -- the pair qualifies
-counted : (c : goal.Else-not-qualifies) → let a = c.args in qualifies a.settings a.dark a.light ≡ true
-counted c = sym c.qualifies.ensures ∙ not-false _ c.if-not-qualifies.false
+
 
 pub returns-then-b-a : goal.returns-then-b-a
 returns-then-b-a c =
     let t = c.before in
-    second _ (counted t.before) _ _ _ (top_said t.args.so) t.if-b-a.true c.raised.ensures
+    second _ (let it : let a = t.before.args in qualifies a.settings a.dark a.light ≡ true = sym t.before.qualifies.ensures ∙ t.before.if-not-qualifies.false in it) _ _ _ (top_said t.args.so) t.if-b-a.true c.raised.ensures
 
 pub returns : goal.returns
 returns c =
     let t = c.before in
-    first _ (counted t.before) _ _ _ (top_said t.args.so) t.if-b-a.false c.raised-2.ensures
+    first _ (let it : let a = t.before.args in qualifies a.settings a.dark a.light ≡ true = sym t.before.qualifies.ensures ∙ t.before.if-not-qualifies.false in it) _ _ _ (top_said t.args.so) t.if-b-a.false c.raised-2.ensures

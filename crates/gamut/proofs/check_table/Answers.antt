@@ -3,7 +3,6 @@ use mathlib.Core.Path.{◌≡◌, sym, ◌∙◌}
 use mathlib.Core.Bool.{true, false}
 use mathlib.Core.List.{List}
 use lib.Ieee.{Float}
-use borrow.Author.Tests.{not-true, not-false}
 use Rattle.limits.specs.Answers.{Said, value, refused}
 use Rattle.limits.specs.Taken.{entry_taken, every}
 use Rattle.gamut.specs.Table.{table_taken, table_checked}
@@ -24,13 +23,13 @@ module _ (table : List Float) where
     fine f = rw (one, f)
 
 pub returns-then-not-takes_table : goal.returns-then-not-takes_table
-returns-then-not-takes_table c = first _ (sym c.takes_table.ensures ∙ not-true _ c.if-not-takes_table.true)
+returns-then-not-takes_table c = first _ (sym c.takes_table.ensures ∙ c.if-not-takes_table.true)
 
 one : (c : goal.Else-not-takes_table) → table_taken c.args.table.now ≡ true
-one c = sym c.takes_table.ensures ∙ not-false _ c.if-not-takes_table.false
+one c = sym c.takes_table.ensures ∙ c.if-not-takes_table.false
 
 pub returns-then-not-takes_entries : goal.returns-then-not-takes_entries
-returns-then-not-takes_entries c = second _ (one c.before.before) (sym c.takes_entries.ensures ∙ not-true _ c.if-not-takes_entries.true)
+returns-then-not-takes_entries c = second _ (one c.before.before) (sym c.takes_entries.ensures ∙ c.if-not-takes_entries.true)
 
 pub returns : goal.returns
-returns c = fine _ (one c.before.before) (sym c.takes_entries.ensures ∙ not-false _ c.if-not-takes_entries.false)
+returns c = fine _ (one c.before.before) (sym c.takes_entries.ensures ∙ c.if-not-takes_entries.false)

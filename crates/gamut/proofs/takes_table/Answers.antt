@@ -11,19 +11,16 @@ use Rattle.gamut.specs.Table.{levels_in, table_taken}
 use Rattle.gamut.proofs.takes_table.Goals as goal
 
 -- the first two tests
-joined : (c : goal.Joined-n-levels) → c.if-n-levels.if2 ≡ (eqb (length c.args.table.now) (length c.args.table.now / 720 * 720) && leb 1 (length c.args.table.now / 720))
-joined c =
-    let n = length c.args.table.now in
-    ⊎_elim (λ t. t.1 ∙ sym (rw (eq-eqb n (n / 720 * 720) t.0.taken))) (λ t. t.1 ∙ sym (rw (ne_eqb n (n / 720 * 720) t.0.left))) c.if-n-levels.branch
+
 
 pub returns-then-levels-ge1 : goal.returns-then-levels-ge1
 unfolding table_taken levels_in
 returns-then-levels-ge1 c =
     let n = length c.args.table.now in
-    passed_on (eqb n (n / 720 * 720) && leb 1 (n / 720)) (leb (n / 720) 169) c.if-n-levels.if2 (joined c.before) c.if-levels-ge1.true ∙ and_assoc (eqb n (n / 720 * 720)) (leb 1 (n / 720)) (leb (n / 720) 169)
+    passed_on (eqb n (n / 720 * 720) && leb 1 (n / 720)) (leb (n / 720) 169) c.if-n-levels.if2 (let it : c.before.if-n-levels.if2 ≡ (eqb (length c.before.args.table.now) (length c.before.args.table.now / 720 * 720) && leb 1 (length c.before.args.table.now / 720)) = let n = length c.before.args.table.now in ⊎_elim (λ t. t.1 ∙ sym (rw (eq-eqb n (n / 720 * 720) t.0.taken))) (λ t. t.1 ∙ sym (rw (ne_eqb n (n / 720 * 720) t.0.left))) c.before.if-n-levels.branch in it) c.if-levels-ge1.true ∙ and_assoc (eqb n (n / 720 * 720)) (leb 1 (n / 720)) (leb (n / 720) 169)
 
 pub returns-else-levels-ge1 : goal.returns-else-levels-ge1
 unfolding table_taken levels_in
 returns-else-levels-ge1 c =
     let n = length c.args.table.now in
-    stopped (eqb n (n / 720 * 720) && leb 1 (n / 720)) (leb (n / 720) 169) c.if-n-levels.if2 (joined c.before) c.if-levels-ge1.false ∙ and_assoc (eqb n (n / 720 * 720)) (leb 1 (n / 720)) (leb (n / 720) 169)
+    stopped (eqb n (n / 720 * 720) && leb 1 (n / 720)) (leb (n / 720) 169) c.if-n-levels.if2 (let it : c.before.if-n-levels.if2 ≡ (eqb (length c.before.args.table.now) (length c.before.args.table.now / 720 * 720) && leb 1 (length c.before.args.table.now / 720)) = let n = length c.before.args.table.now in ⊎_elim (λ t. t.1 ∙ sym (rw (eq-eqb n (n / 720 * 720) t.0.taken))) (λ t. t.1 ∙ sym (rw (ne_eqb n (n / 720 * 720) t.0.left))) c.before.if-n-levels.branch in it) c.if-levels-ge1.false ∙ and_assoc (eqb n (n / 720 * 720)) (leb 1 (n / 720)) (leb (n / 720) 169)

@@ -8,7 +8,7 @@ use native.Mathlib.Omega.{arith}
 use lib.Dec.{leb}
 use lib.Ieee.{Float}
 use lib.ListN.{length}
-use borrow.Author.Tests.{not-true, not-false, le-leb, lt-leb, ltb-true, ltb-false}
+use borrow.Author.Tests.{le-leb, lt-leb, ltb-true, ltb-false}
 use Rattle.limits.specs.Answers.{Said, value, refused}
 use Rattle.gamut.specs.Table.{levels_in, table_taken}
 use Rattle.gamut.proofs.Table.{levelled}
@@ -62,25 +62,18 @@ module _ (t : List Float) (levels : List ℕ) (room : ℕ) where
           fine f = rw (one, le-leb (work_needed 720) room two, three, four, f)
 
 pub returns-then-not-takes_table : goal.returns-then-not-takes_table
-returns-then-not-takes_table c = first _ _ c.args.room (sym c.takes_table.ensures ∙ not-true _ c.if-not-takes_table.true)
-
-one : (c : goal.Else-not-takes_table) → table_taken c.args.table.now ≡ true
-one c = sym c.takes_table.ensures ∙ not-false _ c.if-not-takes_table.false
+returns-then-not-takes_table c = first _ _ c.args.room (sym c.takes_table.ensures ∙ c.if-not-takes_table.true)
 
 pub returns-then-room-lt-HUES : goal.returns-then-room-lt-HUES
 unfolding work_needed
-returns-then-room-lt-HUES c = second _ c.args.levels.now _ (one c.before) c.if-room-lt-HUES.true
-
-two : (c : goal.Else-room-lt-HUES) → work_needed 720 ≤ c.args.room
-unfolding work_needed
-two c = c.if-room-lt-HUES.false
+returns-then-room-lt-HUES c = second _ c.args.levels.now _ (let it : table_taken c.before.args.table.now ≡ true = sym c.before.takes_table.ensures ∙ c.before.if-not-takes_table.false in it) c.if-room-lt-HUES.true
 
 pub returns-then-levels-lt1 : goal.returns-then-levels-lt1
 returns-then-levels-lt1 c =
     let e = c.before in
     let a = e.args in
     let levels = a.levels.now in
-    third a.table.now levels a.room (one e.before) (two e)
+    third a.table.now levels a.room (let it : table_taken e.before.args.table.now ≡ true = sym e.before.takes_table.ensures ∙ e.before.if-not-takes_table.false in it) (let it : work_needed 720 ≤ e.args.room = e.if-room-lt-HUES.false in it)
     (⊎_elim (λ r. too_few levels (let h = r.taken in omega arith)) (λ r. too_many levels (let h = ltb-true _ (length levels) r.1.taken in omega arith)) c.then-levels-lt1.branch)
 
 -- what is known after the first three
@@ -94,17 +87,17 @@ known c =
     let e = c.before.before in
     let some = c.if-levels-lt1.false in
     let few = ltb-false _ (length c.args.levels.now) c.if-levels-gt8.false in
-    record { table = one e.before; buffer = two e; list = (omega arith, omega arith) }
+    record { table = (let it : table_taken e.before.args.table.now ≡ true = sym e.before.takes_table.ensures ∙ e.before.if-not-takes_table.false in it); buffer = (let it : work_needed 720 ≤ e.args.room = e.if-room-lt-HUES.false in it); list = (omega arith, omega arith) }
 
 pub returns-then-not-takes_indices : goal.returns-then-not-takes_indices
 unfolding levels_in
 returns-then-not-takes_indices c =
     let k = known c.before.before in
-    fourth _ _ _ k.table k.buffer (list_taken_lem _ k.list) (sym c.takes_indices.ensures ∙ not-true _ c.if-not-takes_indices.true)
+    fourth _ _ _ k.table k.buffer (list_taken_lem _ k.list) (sym c.takes_indices.ensures ∙ c.if-not-takes_indices.true)
 
 four : (c : goal.Else-not-takes_indices) → let a = c.args in indices_taken (levels_in a.table.now) a.levels.now ≡ true
 unfolding levels_in
-four c = sym c.takes_indices.ensures ∙ not-false _ c.if-not-takes_indices.false
+four c = sym c.takes_indices.ensures ∙ c.if-not-takes_indices.false
 
 pub takes_rows-requires : goal.takes_rows-requires
 takes_rows-requires c =
@@ -116,10 +109,10 @@ pub returns-then-not-takes_rows : goal.returns-then-not-takes_rows
 returns-then-not-takes_rows c =
     let g = c.before.before in
     let k = known g.before.before in
-    fifth _ _ _ k.table k.buffer (list_taken_lem _ k.list) (four g) (sym c.takes_rows.ensures ∙ not-true _ c.if-not-takes_rows.true)
+    fifth _ _ _ k.table k.buffer (list_taken_lem _ k.list) (four g) (sym c.takes_rows.ensures ∙ c.if-not-takes_rows.true)
 
 pub returns : goal.returns
 returns c =
     let g = c.before.before in
     let k = known g.before.before in
-    fine _ _ _ k.table k.buffer (list_taken_lem _ k.list) (four g) (sym c.takes_rows.ensures ∙ not-false _ c.if-not-takes_rows.false)
+    fine _ _ _ k.table k.buffer (list_taken_lem _ k.list) (four g) (sym c.takes_rows.ensures ∙ c.if-not-takes_rows.false)

@@ -58,11 +58,11 @@ offset_bounds-table-from c = let i = inside c.before in omega arith
 pub slice_bounds-lower-count : goal.slice_bounds-lower-count
 slice_bounds-lower-count c = let i = inside c.before in omega arith
 
--- LEFT part-lower-start : tie.Need-slice-bounds-lower-start invariant-loop decreases-loop
--- part-lower-start c = let i = inside c.before in omega arith
+pub slice_bounds-lower-start : goal.slice_bounds-lower-start
+slice_bounds-lower-start c = let i = inside c.before in omega arith
 
--- LEFT part-lower-end : tie.Need-slice-bounds-lower-end invariant-loop decreases-loop
--- part-lower-end c = let i = inside c.before in omega arith
+pub slice_bounds-lower-end : goal.slice_bounds-lower-end
+slice_bounds-lower-end c = let i = inside c.before in omega arith
 
 -- the row that is lent, and how long it is
 lent-long : (b : goal.In-loop-left) → let a = b.args in length (part a.table.now (get_or a.levels.now (b.loop-left.false - 1) 0)) ≡ 720

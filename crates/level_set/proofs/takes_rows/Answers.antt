@@ -4,7 +4,6 @@ use mathlib.Core.Bool.{Bool, true, false, ◌&&◌}
 use Prim.Native.Nat.{◌+◌, ◌-◌, ◌*◌, ◌≤◌}
 use native.Mathlib.Omega.{arith}
 use lib.ListN.{length, get_or, drop}
-use borrow.Author.Tests.{not-true, not-false}
 use Rattle.limits.specs.Taken.{entry_taken, every}
 use Rattle.gamut.proofs.Table.{part_row}
 use Rattle.pair_rules.specs.Pair.{entries_taken}
@@ -34,11 +33,11 @@ offset_bounds-table-from c = let i = inside c.before in omega arith
 pub slice_bounds-takes_entries-count : goal.slice_bounds-takes_entries-count
 slice_bounds-takes_entries-count c = let i = inside c.before in omega arith
 
--- LEFT part-takes-entries-start : tie.Need-slice-bounds-takes-entries-start invariant-loop decreases-loop
--- part-takes-entries-start c = let i = inside c.before in omega arith
+pub slice_bounds-takes_entries-start : goal.slice_bounds-takes_entries-start
+slice_bounds-takes_entries-start c = let i = inside c.before in omega arith
 
--- LEFT part-takes-entries-end : tie.Need-slice-bounds-takes-entries-end invariant-loop decreases-loop
--- part-takes-entries-end c = let i = inside c.before in omega arith
+pub slice_bounds-takes_entries-end : goal.slice_bounds-takes_entries-end
+slice_bounds-takes_entries-end c = let i = inside c.before in omega arith
 
 -- what is left of the rows, by what the test of the next one found
 left : (c : goal.After-takes_entries) (x : Bool) → c.takes_entries.result ≡ x → let l = c.before.before.before.before in let a = l.args in
@@ -53,10 +52,10 @@ left c x e =
     ap (λ (y : Bool). y && entries_taken (rows_at t (drop (i + 1) levels))) (sym e ∙ c.takes_entries.ensures ∙ ap (every entry_taken) (part_row t (get_or levels i 0))) ∙ sym (next_entries levels i t b.loop-i-test.true) ∙ l.loop-i.invariant.1
 
 pub returns-then-not-takes_entries : goal.returns-then-not-takes_entries
-returns-then-not-takes_entries c = left c.before false (not-true _ c.if-not-takes_entries.true)
+returns-then-not-takes_entries c = left c.before false (c.if-not-takes_entries.true)
 
 pub loop-i-preserved : goal.loop-i-preserved
-loop-i-preserved c = (omega arith, left c.before true (not-false _ c.if-not-takes_entries.false))
+loop-i-preserved c = (omega arith, left c.before true (c.if-not-takes_entries.false))
 
 pub returns : goal.returns
 returns c =

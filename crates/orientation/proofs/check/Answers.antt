@@ -6,7 +6,7 @@ use Prim.Native.Nat.{ℕ}
 use native.Mathlib.Omega.{arith}
 use lib.Dec.{leb}
 use lib.Ieee.{Float}
-use borrow.Author.Tests.{not-true, not-false, le-leb, lt-leb}
+use borrow.Author.Tests.{le-leb, lt-leb}
 use Rattle.limits.specs.Answers.{Said, value, refused}
 use Rattle.limits.specs.Refusals.{number, check_said}
 use Rattle.limits.specs.Taken.{gap_taken}
@@ -46,10 +46,10 @@ module _ (gap : Float) (table : List Float) (hue : ℕ) where
     nowhere f h = let e : value tt ≡ last = rw h in e ∙ (sym (fine (table_checks table) r says last f) ∙ then)
 
 pub returns-then-not-takes_gap : goal.returns-then-not-takes_gap
-returns-then-not-takes_gap c = first _ _ c.args.hue (sym c.takes_gap.ensures ∙ not-true _ c.if-not-takes_gap.true)
+returns-then-not-takes_gap c = first _ _ c.args.hue (sym c.takes_gap.ensures ∙ c.if-not-takes_gap.true)
 
 one : (c : goal.Else-not-takes_gap) → gap_taken c.args.gap ≡ true
-one c = sym c.takes_gap.ensures ∙ not-false _ c.if-not-takes_gap.false
+one c = sym c.takes_gap.ensures ∙ c.if-not-takes_gap.false
 
 pub returns-then-hue-ge-HUES : goal.returns-then-hue-ge-HUES
 returns-then-hue-ge-HUES c =

@@ -3,34 +3,27 @@ use mathlib.Core.Path.{◌≡◌, sym, ◌∙◌}
 use mathlib.Core.Bool.{true}
 use lib.ListN.{length}
 use borrow.Author.Rules.{rules}
-use borrow.Author.Tests.{not-true, not-false}
 use Rattle.search_rules.specs.Job.{unbroken}
 use Rattle.page.proofs.Laying.{within, lays_broken, lays_short, lays_page}
 use Rattle.page.proofs.Rows.{few}
 use Rattle.page.proofs.lay_out.Goals as goal
 
-long : (c : goal.Start) → length c.args.job.hues ≡ 16
-long c = search rules
-
 pub returns-then-not-is_unbroken : goal.returns-then-not-is_unbroken
-returns-then-not-is_unbroken c = lays_broken _ _ (sym c.is_unbroken.ensures ∙ not-true _ c.if-not-is_unbroken.true)
-
-whole : (c : goal.Else-not-is_unbroken) → unbroken c.args.job ≡ true
-whole c = sym c.is_unbroken.ensures ∙ not-false _ c.if-not-is_unbroken.false
+returns-then-not-is_unbroken c = lays_broken _ _ (sym c.is_unbroken.ensures ∙ c.if-not-is_unbroken.true)
 
 pub bytes_with-requires : goal.bytes_with-requires
-bytes_with-requires c = few _ (whole c.before)
+bytes_with-requires c = few _ (let it : unbroken c.before.args.job ≡ true = sym c.before.is_unbroken.ensures ∙ c.before.if-not-is_unbroken.false in it)
 
 pub returns-then-page-bytes_with : goal.returns-then-page-bytes_with
 returns-then-page-bytes_with c =
     let b = c.before in
     let e = b.before.before in
-    lays_short _ _ (long e.before.before.before) (whole e) (rw b.bytes_with.ensures at c.if-page-bytes_with.true)
+    lays_short _ _ (let it : length e.before.before.before.args.job.hues ≡ 16 = search rules in it) (let it : unbroken e.args.job ≡ true = sym e.is_unbroken.ensures ∙ e.if-not-is_unbroken.false in it) (rw b.bytes_with.ensures at c.if-page-bytes_with.true)
 
 pub put_page-requires : goal.put_page-requires
 put_page-requires c =
     let e = c.before.before.before.before in
-    (few _ (whole e), within _ (whole e))
+    (few _ (let it : unbroken e.args.job ≡ true = sym e.is_unbroken.ensures ∙ e.if-not-is_unbroken.false in it), within _ (let it : unbroken e.args.job ≡ true = sym e.is_unbroken.ensures ∙ e.if-not-is_unbroken.false in it))
 
 pub returns : goal.returns
 returns c =
@@ -38,4 +31,4 @@ returns c =
     let t = p.before.before in
     let b = t.before in
     let e = b.before.before in
-    lays_page _ _ (long e.before.before.before) (whole e) (rw b.bytes_with.ensures at t.if-page-bytes_with.false) p.put_page.ensures
+    lays_page _ _ (let it : length e.before.before.before.args.job.hues ≡ 16 = search rules in it) (let it : unbroken e.args.job ≡ true = sym e.is_unbroken.ensures ∙ e.if-not-is_unbroken.false in it) (rw b.bytes_with.ensures at t.if-page-bytes_with.false) p.put_page.ensures

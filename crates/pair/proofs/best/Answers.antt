@@ -13,21 +13,17 @@ use Rattle.pair_rules.specs.Pair.{best_over, Gives}
 use Rattle.pair.specs.Inner.{Lent}
 use Rattle.pair_rules.proofs.Rows.{least_long}
 use Rattle.pair.proofs.Checking.{short, least_checked, two_alike}
-use borrow.Author.Rules.{rules}
 use Rattle.pair.proofs.best.Goals as goal
 
 -- the front of an array into which the row was written
 front : (row rest least : List Float) (n : ℕ) → row ≡ least → length least ≡ n → take (n - 0) (row ++ rest) ≡ least
 front row rest least n e l = rw sub-zero (take_at row rest n (ap length e ∙ l)) ∙ e
 
--- LEFT part-least-start : tie.Need-slice-bounds-least-start
--- part-least-start c = search rules
-
--- LEFT part-least-end : tie.Need-slice-bounds-least-end
--- part-least-end c =
---     let s = c.before.before.before in
---     let a = s.args in
---     (short a.k a.step a.floor (a.a.now ∷ a.b.now ∷ []) (length a.work.now) s.requires).1
+pub slice_bounds-least-end : goal.slice_bounds-least-end
+slice_bounds-least-end c =
+    let s = c.before.before.before in
+    let a = s.args in
+    (short a.k a.step a.floor (a.a.now ∷ a.b.now ∷ []) (length a.work.now) s.requires).1
 
 pub lesser_row-most-requires : goal.lesser_row-most-requires
 lesser_row-most-requires c =
@@ -38,16 +34,13 @@ lesser_row-most-requires c =
     let long = sym (sub-zero (length a.a.now)) ∙ c.least-1.given.1 in
     (long, same ∙ long)
 
--- LEFT part-from-floor-start : tie.Need-slice-bounds-from-floor-start
--- part-from-floor-start c = search rules
-
--- LEFT part-from-floor-end : tie.Need-slice-bounds-from-floor-end
--- part-from-floor-end c =
---     let f = c.before.before in
---     let s = f.before.before.before.before.before in
---     let a = s.args in
---     let e = ap length f.lesser-row.ensures.0 ∙ least_long (a.a.now ∷ a.b.now ∷ []) in
---     simp length-append (omega arith)
+pub slice_bounds-from_floor-end : goal.slice_bounds-from_floor-end
+slice_bounds-from_floor-end c =
+    let f = c.before.before in
+    let s = f.before.before.before.before.before in
+    let a = s.args in
+    let e = ap length f.lesser-row.ensures.0 ∙ least_long (a.a.now ∷ a.b.now ∷ []) in
+    simp length-append (omega arith)
 
 pub from_floor-requires : goal.from_floor-requires
 from_floor-requires c =

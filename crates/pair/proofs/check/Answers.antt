@@ -1,14 +1,7 @@
 -- `pair::check` meets its contract: unequal rows are refused as a row without entries is, and equal ones by what the second or else the first is. Assumes nothing.
 use mathlib.Core.Path.{refl}
-use borrow.Author.Rules.{rules}
 use Rattle.pair.proofs.Checking.{unequal, second_refused, first_says}
 use Rattle.pair.proofs.check.Goals as goal
-
--- LEFT part-check-start : tie.Need-slice-bounds-check-start
--- part-check-start c = search rules
-
--- LEFT part-check-end : tie.Need-slice-bounds-check-end
--- part-check-end c = search rules
 
 pub returns-then-a-b : goal.returns-then-a-b
 returns-then-a-b c =

@@ -7,7 +7,7 @@ use native.Mathlib.Omega.{arith}
 use lib.Dec.{T}
 use lib.ListN.{length}
 use borrow.Author.Rules.{rules}
-use borrow.Author.Tests.{not-true, not-false}
+use borrow.Author.Tests.{not-false}
 use Rattle.limits.specs.Answers.{value}
 use Rattle.limits.proofs.Floats.{never}
 use Rattle.pair_rules.specs.Pair.{Gives}
@@ -43,7 +43,7 @@ loop-i-preserved c =
     let h : l.loop-i.i < 30 = let k = t.loop-i-test.true in omega arith in (
       omega arith,
       search rules,
-      onward s.requires.0 l.loop-i.invariant.2 u.turn-at.result h (not-true _ t.if-not-at.true) u.turn-at.ensures,
+      onward s.requires.0 l.loop-i.invariant.2 u.turn-at.result h (t.if-not-at.true) u.turn-at.ensures,
     )
 
 pub shape_of-work : goal.shape_of-work

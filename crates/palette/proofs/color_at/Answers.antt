@@ -7,12 +7,6 @@ use Rattle.palette.proofs.Ready.{few_hues, levels_in_range, hue_in, long}
 use Rattle.palette.proofs.Colors.{dark_at_lem, light_at_lem}
 use Rattle.palette.proofs.color_at.Goals as goal
 
-within : (s : goal.Start) → s.args.design.k ≤ length s.args.design.hues
-within s =
-    let f = few_hues s.requires.0 in
-    let e = sym (length-map s.args.design.hues (λ v. v)) ∙ s.well_formed.0.1.1.1.1.1.0.1.0.1 in
-    omega arith
-
 pub offset_bounds-hues-i : goal.offset_bounds-hues-i
 offset_bounds-hues-i c = let f = few_hues c.requires.0 in omega arith
 
@@ -30,7 +24,7 @@ returns-then-i-k c =
     let t = c.before in
     let s = t.before.before.before.before in
     let a = s.args in
-    c.color_of.ensures ∙ sym (dark_at_lem a.design a.chroma a.cos.now a.sin.now (within s) a.i t.if-i-k.true)
+    c.color_of.ensures ∙ sym (dark_at_lem a.design a.chroma a.cos.now a.sin.now (let it : s.args.design.k ≤ length s.args.design.hues = let f = few_hues s.requires.0 in let e = sym (length-map s.args.design.hues (λ v. v)) ∙ s.well_formed.0.1.1.1.1.1.0.1.0.1 in omega arith in it) a.i t.if-i-k.true)
 
 pub bounds-hues-i-2 : goal.bounds-hues-i-2
 bounds-hues-i-2 c = let f = few_hues c.requires.0 in omega arith
@@ -46,4 +40,4 @@ returns c =
     let e = c.before in
     let s = e.before.before.before.before in
     let a = s.args in
-    c.color_of-2.ensures ∙ sym (light_at_lem a.design a.chroma a.cos.now a.sin.now (within s) a.i e.if-i-k.false s.requires.1)
+    c.color_of-2.ensures ∙ sym (light_at_lem a.design a.chroma a.cos.now a.sin.now (let it : s.args.design.k ≤ length s.args.design.hues = let f = few_hues s.requires.0 in let e = sym (length-map s.args.design.hues (λ v. v)) ∙ s.well_formed.0.1.1.1.1.1.0.1.0.1 in omega arith in it) a.i e.if-i-k.false s.requires.1)

@@ -21,14 +21,11 @@ module _ (k : ℕ) (colors : List Srgb8) (one : k ≡ 1) where
   no_chroma : inf false ≡ least_chroma k colors
   no_chroma = rw (one, one_chroma colors)
 
-few : (s : goal.Start) → (1 ≤ s.args.k) × (s.args.k ≤ 16)
-few s = hue_count s.args.k s.requires.hue_count
-
 pub overflow_add-k : goal.overflow_add-k
-overflow_add-k c = let h = (few c.before.before).1 in record { fits = omega arith }
+overflow_add-k c = let h = (let it : (1 ≤ c.before.before.args.k) × (c.before.before.args.k ≤ 16) = hue_count c.before.before.args.k c.before.before.requires.hue_count in it).1 in record { fits = omega arith }
 
 pub parts_of-parts-requires : goal.parts_of-parts-requires
-parts_of-parts-requires c = let h = (few c.before.before).1 in omega arith
+parts_of-parts-requires c = let h = (let it : (1 ≤ c.before.before.args.k) × (c.before.before.args.k ≤ 16) = hue_count c.before.before.args.k c.before.before.requires.hue_count in it).1 in omega arith
 
 pub float_from_bits-result : goal.float_from_bits-result
 unfolding nan_bits
@@ -45,7 +42,7 @@ returns-then-k-lt2 c =
     let p = g.before.before.before in
     let s = p.before.before.before in
     let a = s.args in
-    let h = (few s).0 in
+    let h = (let it : (1 ≤ s.args.k) × (s.args.k ≤ 16) = hue_count s.args.k s.requires.hue_count in it).0 in
     let one : a.k ≡ 1 = omega arith in
     let m = p.parts_of-parts in
     metrics_are a.k a.colors _ _ a.cos.now a.sin.now g.gap_of-gap.result c.spread_of-spread.result (inf false) (inf false)
@@ -57,10 +54,10 @@ returns-then-k-lt2 c =
     (no_chroma a.k a.colors one)
 
 pub overflow_add-k-2 : goal.overflow_add-k-2
-overflow_add-k-2 c = let h = (few c.before.before.before.before.before.before.before.before).1 in record { fits = omega arith }
+overflow_add-k-2 c = let h = (let it : (1 ≤ c.before.before.before.before.before.before.before.before.args.k) × (c.before.before.before.before.before.before.before.before.args.k ≤ 16) = hue_count c.before.before.before.before.before.before.before.before.args.k c.before.before.before.before.before.before.before.before.requires.hue_count in it).1 in record { fits = omega arith }
 
 pub hues_in-requires : goal.hues_in-requires
-hues_in-requires c = let s = c.before.before.before.before.before.before.before.before in let h = (few s).1 in (omega arith, s.requires.directions)
+hues_in-requires c = let s = c.before.before.before.before.before.before.before.before in let h = (let it : (1 ≤ s.args.k) × (s.args.k ≤ 16) = hue_count s.args.k s.requires.hue_count in it).1 in (omega arith, s.requires.directions)
 
 pub returns : goal.returns
 returns c =

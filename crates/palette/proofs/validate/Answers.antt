@@ -5,7 +5,7 @@ use mathlib.Core.List.{List}
 use Prim.Native.Nat.{ℕ, ◌+◌, ◌≤◌}
 use native.Mathlib.Omega.{arith}
 use lib.Ieee.{Float}
-use borrow.Author.Tests.{eq-eqb, ne_eqb, not-true, not-false}
+use borrow.Author.Tests.{eq-eqb, ne_eqb}
 use Rattle.limits.specs.Answers.{Said, value, refused}
 use Rattle.limits.specs.Taken.{hue_count_taken, directions_taken}
 use Rattle.limits.proofs.HueCount.{hue_count}
@@ -41,19 +41,19 @@ pub returns-then-not-takes_hue_count : goal.returns-then-not-takes_hue_count
 returns-then-not-takes_hue_count c =
     let s = c.before.before.before.before in
     let a = s.args in
-    first a.k a.colors a.count a.cos.now a.sin.now (sym c.takes_hue_count.ensures ∙ not-true _ c.if-not-takes_hue_count.true)
+    first a.k a.colors a.count a.cos.now a.sin.now (sym c.takes_hue_count.ensures ∙ c.if-not-takes_hue_count.true)
 
 one : (c : goal.Else-not-takes_hue_count) → hue_count_taken c.args.k ≡ true
-one c = sym c.takes_hue_count.ensures ∙ not-false _ c.if-not-takes_hue_count.false
+one c = sym c.takes_hue_count.ensures ∙ c.if-not-takes_hue_count.false
 
 pub returns-then-not-takes_directions : goal.returns-then-not-takes_directions
 returns-then-not-takes_directions c =
     let e = c.before.before in
     let a = e.args in
-    second a.k a.colors a.count a.cos.now a.sin.now (one e) (sym c.takes_directions.ensures ∙ not-true _ c.if-not-takes_directions.true)
+    second a.k a.colors a.count a.cos.now a.sin.now (one e) (sym c.takes_directions.ensures ∙ c.if-not-takes_directions.true)
 
 two : (c : goal.Else-not-takes_directions) → directions_taken c.args.cos.now c.args.sin.now ≡ true
-two c = sym c.takes_directions.ensures ∙ not-false _ c.if-not-takes_directions.false
+two c = sym c.takes_directions.ensures ∙ c.if-not-takes_directions.false
 
 few : (c : goal.Else-not-takes_directions) → c.args.k ≤ 16
 few c = (hue_count c.args.k (one c.before.before)).1

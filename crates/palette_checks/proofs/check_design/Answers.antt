@@ -6,7 +6,7 @@ use mathlib.Core.Logic.{⊎_elim}
 use native.Mathlib.Omega.{arith}
 use lib.Dec.{leb-suc-suc}
 use lib.Ieee.{Float}
-use borrow.Author.Tests.{le-ltb, le-leb, lt-leb, not-true, not-false}
+use borrow.Author.Tests.{le-ltb, le-leb, lt-leb}
 use Rattle.limits.specs.Answers.{Said, value, refused}
 use Rattle.limits.specs.Taken.{hue_count_taken, chroma_taken, directions_taken}
 use Rattle.palette_checks.specs.declared.Design.{Design}
@@ -46,53 +46,41 @@ module _ (d : Design) (c : Float) (cs ss : List Float) where
           fine f = rw (one, two, three, four, f)
 
 pub returns-then-not-takes_hue_count : goal.returns-then-not-takes_hue_count
-returns-then-not-takes_hue_count c = first _ _ _ _ (sym c.takes_hue_count.ensures ∙ not-true _ c.if-not-takes_hue_count.true)
+returns-then-not-takes_hue_count c = first _ _ _ _ (sym c.takes_hue_count.ensures ∙ c.if-not-takes_hue_count.true)
 
 one : (c : goal.Else-not-takes_hue_count) → hue_count_taken c.args.design.k ≡ true
-one c = sym c.takes_hue_count.ensures ∙ not-false _ c.if-not-takes_hue_count.false
+one c = sym c.takes_hue_count.ensures ∙ c.if-not-takes_hue_count.false
 
 pub returns-then-not-takes_chroma : goal.returns-then-not-takes_chroma
-returns-then-not-takes_chroma c = second _ _ _ _ (one c.before.before) (sym c.takes_chroma.ensures ∙ not-true _ c.if-not-takes_chroma.true)
+returns-then-not-takes_chroma c = second _ _ _ _ (one c.before.before) (sym c.takes_chroma.ensures ∙ c.if-not-takes_chroma.true)
 
 two : (c : goal.Else-not-takes_chroma) → chroma_taken c.args.chroma ≡ true
-two c = sym c.takes_chroma.ensures ∙ not-false _ c.if-not-takes_chroma.false
+two c = sym c.takes_chroma.ensures ∙ c.if-not-takes_chroma.false
 
 pub returns-then-not-takes_directions : goal.returns-then-not-takes_directions
 returns-then-not-takes_directions c =
     let e = c.before.before in
-    third _ _ _ _ (one e.before.before) (two e) (sym c.takes_directions.ensures ∙ not-true _ c.if-not-takes_directions.true)
-
-three : (c : goal.Else-not-takes_directions) → directions_taken c.args.cos.now c.args.sin.now ≡ true
-three c = sym c.takes_directions.ensures ∙ not-false _ c.if-not-takes_directions.false
-
-tested : (c : goal.Joined-design-lt-LEVELS) → c.if-design-lt-LEVELS.if5 ≡ levels_taken c.args.design
-unfolding levels_taken
-tested c =
-    let d = c.args.design in
-    ⊎_elim
-    (λ t. rw (le-leb d.dark 168 (omega arith)) (t.1 ∙ leb-suc-suc d.light 168))
-    (λ t. rw (lt-leb d.dark 168 t.0.left) (t.1 ∙ le-ltb d.dark 169 t.0.left))
-    c.if-design-lt-LEVELS.branch
+    third _ _ _ _ (one e.before.before) (two e) (sym c.takes_directions.ensures ∙ c.if-not-takes_directions.true)
 
 pub returns-then-not-design : goal.returns-then-not-design
 returns-then-not-design c =
     let f = c.before.before in
     let e = f.before.before in
-    fourth _ _ _ _ (one e.before.before) (two e) (three f) (sym (tested c.before) ∙ not-true _ c.if-not-design.true)
+    fourth _ _ _ _ (one e.before.before) (two e) (let it : directions_taken f.args.cos.now f.args.sin.now ≡ true = sym f.takes_directions.ensures ∙ f.if-not-takes_directions.false in it) (sym (let it : c.before.if-design-lt-LEVELS.if5 ≡ levels_taken c.before.args.design = let d = c.before.args.design in ⊎_elim (λ t. rw (le-leb d.dark 168 (omega arith)) (t.1 ∙ leb-suc-suc d.light 168)) (λ t. rw (lt-leb d.dark 168 t.0.left) (t.1 ∙ le-ltb d.dark 169 t.0.left)) c.before.if-design-lt-LEVELS.branch in it) ∙ c.if-not-design.true)
 
 four : (c : goal.Else-not-design) → levels_taken c.args.design ≡ true
-four c = sym (tested c.before) ∙ not-false _ c.if-not-design.false
+four c = sym (let it : c.before.if-design-lt-LEVELS.if5 ≡ levels_taken c.before.args.design = let d = c.before.args.design in ⊎_elim (λ t. rw (le-leb d.dark 168 (omega arith)) (t.1 ∙ leb-suc-suc d.light 168)) (λ t. rw (lt-leb d.dark 168 t.0.left) (t.1 ∙ le-ltb d.dark 169 t.0.left)) c.before.if-design-lt-LEVELS.branch in it) ∙ c.if-not-design.false
 
 pub returns-then-not-takes_hues : goal.returns-then-not-takes_hues
 returns-then-not-takes_hues c =
     let g = c.before.before in
     let f = g.before.before in
     let e = f.before.before in
-    fifth _ _ _ _ (one e.before.before) (two e) (three f) (four g) (sym c.takes_hues.ensures ∙ not-true _ c.if-not-takes_hues.true)
+    fifth _ _ _ _ (one e.before.before) (two e) (let it : directions_taken f.args.cos.now f.args.sin.now ≡ true = sym f.takes_directions.ensures ∙ f.if-not-takes_directions.false in it) (four g) (sym c.takes_hues.ensures ∙ c.if-not-takes_hues.true)
 
 pub returns : goal.returns
 returns c =
     let g = c.before.before in
     let f = g.before.before in
     let e = f.before.before in
-    fine _ _ _ _ (one e.before.before) (two e) (three f) (four g) (sym c.takes_hues.ensures ∙ not-false _ c.if-not-takes_hues.false)
+    fine _ _ _ _ (one e.before.before) (two e) (let it : directions_taken f.args.cos.now f.args.sin.now ≡ true = sym f.takes_directions.ensures ∙ f.if-not-takes_directions.false in it) (four g) (sym c.takes_hues.ensures ∙ c.if-not-takes_hues.false)

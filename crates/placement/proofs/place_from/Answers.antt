@@ -4,7 +4,6 @@ use mathlib.Core.Path.{◌≡◌, ◌∙◌}
 use mathlib.Core.Bool.{true, false}
 use Prim.Native.Nat.{◌-◌}
 use native.Mathlib.Omega.{arith}
-use borrow.Author.Tests.{not-true, not-false}
 use Rattle.placement_rules.specs.Placing.{allowed_at}
 use Rattle.placement.proofs.Table.{allowed_there}
 use Rattle.placement.proofs.Placing.{gives_same}
@@ -20,7 +19,7 @@ bounds-m-start c = c.requires.1.1
 pub returns-then-not-c-m : goal.returns-then-not-c-m
 returns-then-not-c-m c =
     let s = c.before.before.before.before.before in
-    let f : allowed_at s.args.m.now s.args.c s.args.start ≡ false = allowed_there s.args.m.now s.args.c s.args.start s.requires.1.1 ∙ not-true _ c.if-not-c-m.true in
+    let f : allowed_at s.args.m.now s.args.c s.args.start ≡ false = allowed_there s.args.m.now s.args.c s.args.start s.requires.1.1 ∙ c.if-not-c-m.true in
     gives_same (not_begun s.args.m.now s.args.c s.args.k s.args.step s.args.start f) (c.nowhere.ensures _ _)
 
 pub overflow_add-stop : goal.overflow_add-stop
@@ -32,7 +31,7 @@ overflow_cast-hues c = let s = c.before.before.before.before in let h = s.requir
 pub loop-at-init : goal.loop-at-init
 loop-at-init c =
     let s = c.before.before.before.before in
-    let t : allowed_at s.args.m.now s.args.c s.args.start ≡ true = allowed_there s.args.m.now s.args.c s.args.start s.requires.1.1 ∙ not-false _ c.if-not-c-m.false in
+    let t : allowed_at s.args.m.now s.args.c s.args.start ≡ true = allowed_there s.args.m.now s.args.c s.args.start s.requires.1.1 ∙ c.if-not-c-m.false in
     begun s.requires.0 s.requires.1.0 s.requires.1.1 t
 
 pub overflow_add-from : goal.overflow_add-from

@@ -7,7 +7,7 @@ use native.Mathlib.Omega.{arith}
 use lib.Dec.{leb}
 use lib.Ieee.{Float}
 use lib.ListN.{length}
-use borrow.Author.Tests.{le-leb, lt-leb, not-true, not-false}
+use borrow.Author.Tests.{le-leb, lt-leb}
 use Rattle.limits.specs.Answers.{Said, value, refused}
 use Rattle.limits.specs.Taken.{hue_count_taken, chroma_taken, entry_taken, every}
 use Rattle.placement_rules.specs.Placing.{work_needed, checked}
@@ -51,43 +51,40 @@ module _ (k step : ℕ) (c : Float) (row : List Float) (room : ℕ) where
             fine h = rw (one, two, three, four, five, le-leb _ _ h)
 
 pub returns-then-not-takes_hue_count : goal.returns-then-not-takes_hue_count
-returns-then-not-takes_hue_count c = first _ _ _ _ _ (sym c.takes_hue_count.ensures ∙ not-true _ c.if-not-takes_hue_count.true)
+returns-then-not-takes_hue_count c = first _ _ _ _ _ (sym c.takes_hue_count.ensures ∙ c.if-not-takes_hue_count.true)
 
 one : (c : goal.Else-not-takes_hue_count) → hue_count_taken c.args.k ≡ true
-one c = sym c.takes_hue_count.ensures ∙ not-false _ c.if-not-takes_hue_count.false
+one c = sym c.takes_hue_count.ensures ∙ c.if-not-takes_hue_count.false
 
 pub returns-then-not-takes_chroma : goal.returns-then-not-takes_chroma
-returns-then-not-takes_chroma c = second _ _ _ _ _ (one c.before.before) (sym c.takes_chroma.ensures ∙ not-true _ c.if-not-takes_chroma.true)
+returns-then-not-takes_chroma c = second _ _ _ _ _ (one c.before.before) (sym c.takes_chroma.ensures ∙ c.if-not-takes_chroma.true)
 
 two : (c : goal.Else-not-takes_chroma) → chroma_taken c.args.c ≡ true
-two c = sym c.takes_chroma.ensures ∙ not-false _ c.if-not-takes_chroma.false
+two c = sym c.takes_chroma.ensures ∙ c.if-not-takes_chroma.false
 
 pub returns-then-not-between : goal.returns-then-not-between
 returns-then-not-between c =
     let e = c.before.before in
-    third _ _ _ _ _ (one e.before.before) (two e) (sym c.between.ensures ∙ not-true _ c.if-not-between.true)
+    third _ _ _ _ _ (one e.before.before) (two e) (sym c.between.ensures ∙ c.if-not-between.true)
 
 three : (c : goal.Else-not-between) → (leb 1 (length c.args.m.now) && leb (length c.args.m.now) 720) ≡ true
-three c = sym c.between.ensures ∙ not-false _ c.if-not-between.false
+three c = sym c.between.ensures ∙ c.if-not-between.false
 
 pub returns-then-not-between-2 : goal.returns-then-not-between-2
 returns-then-not-between-2 c =
     let f = c.before.before in
     let e = f.before.before in
-    fourth _ _ _ _ _ (one e.before.before) (two e) (three f) (sym c.between-2.ensures ∙ not-true _ c.if-not-between-2.true)
+    fourth _ _ _ _ _ (one e.before.before) (two e) (three f) (sym c.between-2.ensures ∙ c.if-not-between-2.true)
 
 four : (c : goal.Else-not-between-2) → (leb 1 c.args.step && leb c.args.step (length c.args.m.now)) ≡ true
-four c = sym c.between-2.ensures ∙ not-false _ c.if-not-between-2.false
+four c = sym c.between-2.ensures ∙ c.if-not-between-2.false
 
 pub returns-then-not-takes_entries : goal.returns-then-not-takes_entries
 returns-then-not-takes_entries c =
     let g = c.before.before in
     let f = g.before.before in
     let e = f.before.before in
-    fifth _ _ _ _ _ (one e.before.before) (two e) (three f) (four g) (sym c.takes_entries.ensures ∙ not-true _ c.if-not-takes_entries.true)
-
-five : (c : goal.Else-not-takes_entries) → every entry_taken c.args.m.now ≡ true
-five c = sym c.takes_entries.ensures ∙ not-false _ c.if-not-takes_entries.false
+    fifth _ _ _ _ _ (one e.before.before) (two e) (three f) (four g) (sym c.takes_entries.ensures ∙ c.if-not-takes_entries.true)
 
 pub returns-then-room-n : goal.returns-then-room-n
 returns-then-room-n c =
@@ -97,7 +94,7 @@ returns-then-room-n c =
     let e = f.before.before in
     let a = e.args in
     let less = c.if-room-n.true in
-    sixth a.k a.step a.c a.m.now a.room (one e.before.before) (two e) (three f) (four g) (five h) (omega arith)
+    sixth a.k a.step a.c a.m.now a.room (one e.before.before) (two e) (three f) (four g) (let it : every entry_taken h.args.m.now ≡ true = sym h.takes_entries.ensures ∙ h.if-not-takes_entries.false in it) (omega arith)
 
 pub returns : goal.returns
 returns c =
@@ -107,4 +104,4 @@ returns c =
     let e = f.before.before in
     let a = e.args in
     let enough = c.if-room-n.false in
-    fine a.k a.step a.c a.m.now a.room (one e.before.before) (two e) (three f) (four g) (five h) (omega arith)
+    fine a.k a.step a.c a.m.now a.room (one e.before.before) (two e) (three f) (four g) (let it : every entry_taken h.args.m.now ≡ true = sym h.takes_entries.ensures ∙ h.if-not-takes_entries.false in it) (omega arith)

@@ -1,22 +1,9 @@
 -- `search::best_of` meets its contract: the rows that it lends are those of the two levels, and of what `pair` checks only their entries are left. Assumes nothing.
 use mathlib.Core.Path.{◌∙◌}
 use lib.ListN.{length}
-use borrow.Author.Rules.{rules}
 use Rattle.search_rules.proofs.Unbroken.{sound}
 use Rattle.search.proofs.Going.{pair_says_lem, given_round}
 use Rattle.search.proofs.best_of.Goals as goal
-
--- LEFT part-best-for-levels-start : tie.Need-slice-bounds-best-for-levels-start
--- part-best-for-levels-start c = search rules
-
--- LEFT part-best-for-levels-end : tie.Need-slice-bounds-best-for-levels-end
--- part-best-for-levels-end c = search rules
-
--- LEFT part-best-for-levels-start-2 : tie.Need-slice-bounds-best-for-levels-start-2
--- part-best-for-levels-start-2 c = search rules
-
--- LEFT part-best-for-levels-end-2 : tie.Need-slice-bounds-best-for-levels-end-2
--- part-best-for-levels-end-2 c = search rules
 
 pub step_of-requires : goal.step_of-requires
 step_of-requires c = let s = c.before.before.before.before in (sound s.args.job s.requires.sound).hue_count_taken_lem

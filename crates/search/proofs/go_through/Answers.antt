@@ -2,7 +2,6 @@
 use mathlib.Core.Path.{◌≡◌, refl, sym, ◌∙◌}
 use mathlib.Core.Bool.{true}
 use native.Mathlib.Omega.{arith}
-use borrow.Author.Tests.{not-true, not-false}
 use Rattle.limits.specs.Refusals.{number}
 use Rattle.limits.proofs.Checks.{said_twice}
 use Rattle.search_rules.specs.Job.{qualifies}
@@ -29,19 +28,16 @@ pub returns-then-not-qualifies : goal.returns-then-not-qualifies
 returns-then-not-qualifies c =
     let q = c.before.before.before in
     let a = q.args in
-    let e = passed_over a.job a.table.now a.dark a.light (sym q.qualifies.ensures ∙ not-true _ c.if-not-qualifies.true) in
+    let e = passed_over a.job a.table.now a.dark a.light (sym q.qualifies.ensures ∙ c.if-not-qualifies.true) in
     (accepting a.job c.moved_on.ensures e c.accept.ensures, λ w again. refl)
 -- ASKED ['gives', 'untouched']
-
-far_apart : (c : goal.Else-not-qualifies) → qualifies c.args.job.settings c.args.dark c.args.light ≡ true
-far_apart c = sym c.qualifies.ensures ∙ not-false _ c.if-not-qualifies.false
 
 pub returns-then-beats : goal.returns-then-beats
 returns-then-beats c =
     let g = c.before.before.before.before.before.before.before.before.before.before in
     let q = g.before.before.before in
     let a = q.args in
-    let far = far_apart g.before.before in
+    let far = (let it : qualifies g.before.before.args.job.settings g.before.before.args.dark g.before.before.args.light ≡ true = sym g.before.before.qualifies.ensures ∙ g.before.before.if-not-qualifies.false in it) in
     let given = g.best_of-chosen.ensures in
     let hues = g.best_of-chosen.result.hues in
     let answer = g.best_of-chosen.result.answer in
@@ -56,7 +52,7 @@ returns-in-Refused c =
     let g = c.before.before.before.before.before.before.before in
     let q = g.before.before.before in
     let a = q.args in
-    let far = far_apart g.before.before in
+    let far = (let it : qualifies g.before.before.args.job.settings g.before.before.args.dark g.before.before.args.light ≡ true = sym g.before.before.qualifies.ensures ∙ g.before.before.if-not-qualifies.false in it) in
     let given = g.best_of-chosen.ensures in
     let hues = g.best_of-chosen.result.hues in
     let answer = g.best_of-chosen.result.answer in
@@ -71,7 +67,7 @@ returns-in-Nothing c =
     let g = c.before.before.before.before.before.before.before in
     let q = g.before.before.before in
     let a = q.args in
-    let far = far_apart g.before.before in
+    let far = (let it : qualifies g.before.before.args.job.settings g.before.before.args.dark g.before.before.args.light ≡ true = sym g.before.before.qualifies.ensures ∙ g.before.before.if-not-qualifies.false in it) in
     let given = g.best_of-chosen.ensures in
     let hues = g.best_of-chosen.result.hues in
     let answer = g.best_of-chosen.result.answer in
@@ -84,7 +80,7 @@ returns-else-beats c =
     let g = c.before.before.before.before.before.before.before.before.before.before in
     let q = g.before.before.before in
     let a = q.args in
-    let far = far_apart g.before.before in
+    let far = (let it : qualifies g.before.before.args.job.settings g.before.before.args.dark g.before.before.args.light ≡ true = sym g.before.before.qualifies.ensures ∙ g.before.before.if-not-qualifies.false in it) in
     let given = g.best_of-chosen.ensures in
     let hues = g.best_of-chosen.result.hues in
     let answer = g.best_of-chosen.result.answer in

@@ -12,23 +12,19 @@ use Rattle.search.proofs.Giving.{refusing}
 use Rattle.search.proofs.step.Goals as goal
 
 -- what a check that is passed says of the job, the table and the work buffer
-known : (c : goal.In-Fine) → (let a = c.args in StepPassed a.job (length a.table.now) (length a.work.now))
-known c =
-    let k = c.before.before in
-    let a = k.args in
-    step_known a.job (length a.table.now) (length a.work.now) k.check_step-checked.result k.check_step-checked.ensures c.in-Fine.is
+
 
 pub nonzero_div-dark : goal.nonzero_div-dark
-nonzero_div-dark c = (sound c.args.job (known c.before).sound).some_level
+nonzero_div-dark c = (sound c.args.job (let it : (let a = c.before.args in StepPassed a.job (length a.table.now) (length a.work.now)) = let k = c.before.before.before in let a = k.args in step_known a.job (length a.table.now) (length a.work.now) k.check_step-checked.result k.check_step-checked.ensures c.before.in-Fine.is in it).sound).some_level
 
 pub nonzero_rem-light : goal.nonzero_rem-light
-nonzero_rem-light c = (sound c.args.job (known c.before.before).sound).some_level
+nonzero_rem-light c = (sound c.args.job (let it : (let a = c.before.before.args in StepPassed a.job (length a.table.now) (length a.work.now)) = let k = c.before.before.before.before in let a = k.args in step_known a.job (length a.table.now) (length a.work.now) k.check_step-checked.result k.check_step-checked.ensures c.before.before.in-Fine.is in it).sound).some_level
 
 pub go_through-requires : goal.go_through-requires
 go_through-requires c =
     let e = c.before.before.before in
     let j = e.args.job in
-    let k = known e in
+    let k = (let it : (let a = e.args in StepPassed a.job (length a.table.now) (length a.work.now)) = let k = e.before.before in let a = k.args in step_known a.job (length a.table.now) (length a.work.now) k.check_step-checked.result k.check_step-checked.ensures e.in-Fine.is in it) in
     let s = sound j k.sound in
     let inside = k.unfinished in
     let most = square j.levels s.few_levels in

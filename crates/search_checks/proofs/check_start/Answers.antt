@@ -3,7 +3,6 @@ use mathlib.Core.Path.{◌≡◌, sym, ◌∙◌}
 use mathlib.Core.Bool.{true, false}
 use mathlib.Core.List.{List}
 use lib.Ieee.{Float}
-use borrow.Author.Tests.{not-true, not-false}
 use Rattle.limits.specs.Answers.{Said, value, refused}
 use Rattle.limits.specs.Taken.{hue_count_taken}
 use Rattle.gamut.specs.Table.{table_checked}
@@ -29,15 +28,15 @@ module _ (s : Settings) (table : List Float) where
     then two = rw (one, two)
 
 pub returns-then-not-takes_hue_count : goal.returns-then-not-takes_hue_count
-returns-then-not-takes_hue_count c = first _ _ (sym c.takes_hue_count.ensures ∙ not-true _ c.if-not-takes_hue_count.true)
+returns-then-not-takes_hue_count c = first _ _ (sym c.takes_hue_count.ensures ∙ c.if-not-takes_hue_count.true)
 
 one : (c : goal.Else-not-takes_hue_count) → hue_count_taken c.args.settings.k ≡ true
-one c = sym c.takes_hue_count.ensures ∙ not-false _ c.if-not-takes_hue_count.false
+one c = sym c.takes_hue_count.ensures ∙ c.if-not-takes_hue_count.false
 
 pub returns-then-not-starts_gap : goal.returns-then-not-starts_gap
-returns-then-not-starts_gap c = second _ _ (one c.before.before) (sym c.starts_gap.ensures ∙ not-true _ c.if-not-starts_gap.true)
+returns-then-not-starts_gap c = second _ _ (one c.before.before) (sym c.starts_gap.ensures ∙ c.if-not-starts_gap.true)
 
 pub returns : goal.returns
 returns c =
     let e = c.before in
-    c.check_table.ensures ∙ then _ _ (one e.before.before) (sym e.starts_gap.ensures ∙ not-false _ e.if-not-starts_gap.false)
+    c.check_table.ensures ∙ then _ _ (one e.before.before) (sym e.starts_gap.ensures ∙ e.if-not-starts_gap.false)

@@ -3,7 +3,7 @@ use mathlib.Core.Path.{◌≡◌, sym, ◌∙◌}
 use mathlib.Core.Bool.{true, false}
 use Prim.Native.Nat.{ℕ, ◌*◌, ◌≤◌, ◌<◌}
 use native.Mathlib.Omega.{arith}
-use borrow.Author.Tests.{lt-ltb, le-ltb, le-leb, lt-leb, eq-eqb, ne_eqb, not-true, not-false}
+use borrow.Author.Tests.{lt-ltb, le-ltb, le-leb, lt-leb, eq-eqb, ne_eqb}
 use Rattle.limits.specs.Answers.{Said, value, refused}
 use Rattle.placement_rules.specs.Placing.{work_needed}
 use Rattle.search_rules.specs.declared.Job.{Job}
@@ -39,10 +39,10 @@ module _ (j : Job) (size room : ℕ) where
         fine h = rw (one, lt-ltb j.position (j.levels * j.levels) two, eq-eqb size (j.levels * 720) three, le-leb (work_needed 720) room h)
 
 pub returns-then-not-is_unbroken : goal.returns-then-not-is_unbroken
-returns-then-not-is_unbroken c = first _ _ _ (sym c.is_unbroken.ensures ∙ not-true _ c.if-not-is_unbroken.true)
+returns-then-not-is_unbroken c = first _ _ _ (sym c.is_unbroken.ensures ∙ c.if-not-is_unbroken.true)
 
 one : (c : goal.Else-not-is_unbroken) → unbroken c.args.job ≡ true
-one c = sym c.is_unbroken.ensures ∙ not-false _ c.if-not-is_unbroken.false
+one c = sym c.is_unbroken.ensures ∙ c.if-not-is_unbroken.false
 
 pub overflow_mul-levels : goal.overflow_mul-levels
 overflow_mul-levels c =

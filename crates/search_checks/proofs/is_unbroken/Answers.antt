@@ -6,7 +6,7 @@ use Prim.Native.Nat.{◌*◌, ◌≤◌, ◌<◌}
 use native.Mathlib.Nat.{mul-le-mul}
 use native.Mathlib.Omega.{arith}
 use lib.Dec.{leb}
-use borrow.Author.Tests.{le-leb, lt-leb, leb-true, not-true, not-false}
+use borrow.Author.Tests.{le-leb, lt-leb, leb-true}
 use Rattle.limits.specs.Taken.{hue_count_taken}
 use Rattle.limits.proofs.HueCount.{both}
 use Rattle.search_rules.specs.declared.Job.{Job}
@@ -47,33 +47,19 @@ module _ (j : Job) where
         fourth : (best_held j.levels j.best && handed_held j) ≡ unbroken j
         fourth = (rw (one, two, le-leb j.position (j.levels * j.levels) three)) ∙ group j
 
-settings-join : (c : goal.Joined-takes_hue_count) → c.if-takes_hue_count.if2 ≡ settings_taken c.args.job
-settings-join c =
-    let s = c.args.job.settings in
-    let h = c.takes_hue_count.ensures in
-    ⊎_elim
-    (λ t. t.2 ∙ t.1.ensures ∙ ap (λ (b : Bool). b && gap_held s.gap) (sym t.0.taken ∙ h))
-    (λ t. t.1 ∙ t.0.left ∙ ap (λ (b : Bool). b && gap_held s.gap) (sym t.0.left ∙ h))
-    c.if-takes_hue_count.branch
-
 pub returns-then-not-takes_gap : goal.returns-then-not-takes_gap
-returns-then-not-takes_gap c = first c.args.job (sym (settings-join c.before) ∙ not-true _ c.if-not-takes_gap.true)
+returns-then-not-takes_gap c = first c.args.job (sym (let it : c.before.if-takes_hue_count.if2 ≡ settings_taken c.before.args.job = let s = c.before.args.job.settings in let h = c.before.takes_hue_count.ensures in ⊎_elim (λ t. t.2 ∙ t.1.ensures ∙ ap (λ (b : Bool). b && gap_held s.gap) (sym t.0.taken ∙ h)) (λ t. t.1 ∙ t.0.left ∙ ap (λ (b : Bool). b && gap_held s.gap) (sym t.0.left ∙ h)) c.before.if-takes_hue_count.branch in it) ∙ c.if-not-takes_gap.true)
 
 one : (c : goal.Else-not-takes_gap) → settings_taken c.args.job ≡ true
-one c = sym (settings-join c.before) ∙ not-false _ c.if-not-takes_gap.false
-
-levels-join : (c : goal.Joined-levels-ge1) → c.if-levels-ge1.if4 ≡ levels_taken_lem c.args.job
-levels-join c =
-    let n = c.args.job.levels in
-    ⊎_elim (λ t. t.1 ∙ sym (rw (le-leb 1 n t.0.taken))) (λ t. t.1 ∙ sym (rw (lt-leb 1 n t.0.left))) c.if-levels-ge1.branch
+(let it : settings_taken c.args.job ≡ true = sym (settings-join c.before) ∙ c.if-not-takes_gap.false in it) = sym (let it : c.before.if-takes_hue_count.if2 ≡ settings_taken c.before.args.job = let s = c.before.args.job.settings in let h = c.before.takes_hue_count.ensures in ⊎_elim (λ t. t.2 ∙ t.1.ensures ∙ ap (λ (b : Bool). b && gap_held s.gap) (sym t.0.taken ∙ h)) (λ t. t.1 ∙ t.0.left ∙ ap (λ (b : Bool). b && gap_held s.gap) (sym t.0.left ∙ h)) c.before.if-takes_hue_count.branch in it) ∙ c.if-not-takes_gap.false
 
 pub returns-then-not-levels : goal.returns-then-not-levels
 returns-then-not-levels c =
     let e = c.before.before in
-    second e.args.job (one e) (sym (levels-join c.before) ∙ not-true _ c.if-not-levels.true)
+    second e.args.job (let it : settings_taken e.args.job ≡ true = sym (settings-join e.before) ∙ e.if-not-takes_gap.false in it) (sym (let it : c.before.if-levels-ge1.if4 ≡ levels_taken_lem c.before.args.job = let n = c.before.args.job.levels in ⊎_elim (λ t. t.1 ∙ sym (rw (le-leb 1 n t.0.taken))) (λ t. t.1 ∙ sym (rw (lt-leb 1 n t.0.left))) c.before.if-levels-ge1.branch in it) ∙ c.if-not-levels.true)
 
 two : (c : goal.Else-not-levels) → levels_taken_lem c.args.job ≡ true
-two c = sym (levels-join c.before) ∙ not-false _ c.if-not-levels.false
+two c = sym (let it : c.before.if-levels-ge1.if4 ≡ levels_taken_lem c.before.args.job = let n = c.before.args.job.levels in ⊎_elim (λ t. t.1 ∙ sym (rw (le-leb 1 n t.0.taken))) (λ t. t.1 ∙ sym (rw (lt-leb 1 n t.0.left))) c.before.if-levels-ge1.branch in it) ∙ c.if-not-levels.false
 
 pub overflow_mul-levels : goal.overflow_mul-levels
 overflow_mul-levels c =
@@ -86,7 +72,7 @@ pub returns-then-levels-position : goal.returns-then-levels-position
 returns-then-levels-position c =
     let f = c.before in
     let e = f.before.before in
-    third e.args.job (one e) (two f) c.if-levels-position.true
+    third e.args.job (let it : settings_taken e.args.job ≡ true = sym (settings-join e.before) ∙ e.if-not-takes_gap.false in it) (two f) c.if-levels-position.true
 
 pub returns-then-holds_best : goal.returns-then-holds_best
 returns-then-holds_best c =
@@ -96,7 +82,7 @@ returns-then-holds_best c =
     let j = e.args.job in
     c.holds_handed.ensures
     ∙ ap (λ (t : Bool). t && handed_held j) (sym c.if-holds_best.true ∙ b.holds_best.ensures)
-    ∙ fourth j (one e) (two f) b.if-levels-position.false
+    ∙ fourth j (let it : settings_taken e.args.job ≡ true = sym (settings-join e.before) ∙ e.if-not-takes_gap.false in it) (two f) b.if-levels-position.false
 
 pub returns-else-holds_best : goal.returns-else-holds_best
 returns-else-holds_best c =
@@ -106,4 +92,4 @@ returns-else-holds_best c =
     let j = e.args.job in
     c.if-holds_best.false
     ∙ ap (λ (t : Bool). t && handed_held j) (sym c.if-holds_best.false ∙ b.holds_best.ensures)
-    ∙ fourth j (one e) (two f) b.if-levels-position.false
+    ∙ fourth j (let it : settings_taken e.args.job ≡ true = sym (settings-join e.before) ∙ e.if-not-takes_gap.false in it) (two f) b.if-levels-position.false
