@@ -53,38 +53,26 @@ module _ (k step : ℕ) (c : Float) (row : List Float) (room : ℕ) where
 pub returns-then-not-takes_hue_count : goal.returns-then-not-takes_hue_count
 returns-then-not-takes_hue_count c = first _ _ _ _ _ (sym c.takes_hue_count.ensures ∙ c.if-not-takes_hue_count.true)
 
-one : (c : goal.Else-not-takes_hue_count) → hue_count_taken c.args.k ≡ true
-one c = sym c.takes_hue_count.ensures ∙ c.if-not-takes_hue_count.false
-
 pub returns-then-not-takes_chroma : goal.returns-then-not-takes_chroma
-returns-then-not-takes_chroma c = second _ _ _ _ _ (one c.before.before) (sym c.takes_chroma.ensures ∙ c.if-not-takes_chroma.true)
-
-two : (c : goal.Else-not-takes_chroma) → chroma_taken c.args.c ≡ true
-two c = sym c.takes_chroma.ensures ∙ c.if-not-takes_chroma.false
+returns-then-not-takes_chroma c = second _ _ _ _ _ (let it : hue_count_taken c.before.before.args.k ≡ true = sym c.before.before.takes_hue_count.ensures ∙ c.before.before.if-not-takes_hue_count.false in it) (sym c.takes_chroma.ensures ∙ c.if-not-takes_chroma.true)
 
 pub returns-then-not-between : goal.returns-then-not-between
 returns-then-not-between c =
     let e = c.before.before in
-    third _ _ _ _ _ (one e.before.before) (two e) (sym c.between.ensures ∙ c.if-not-between.true)
-
-three : (c : goal.Else-not-between) → (leb 1 (length c.args.m.now) && leb (length c.args.m.now) 720) ≡ true
-three c = sym c.between.ensures ∙ c.if-not-between.false
+    third _ _ _ _ _ (let it : hue_count_taken e.before.before.args.k ≡ true = sym e.before.before.takes_hue_count.ensures ∙ e.before.before.if-not-takes_hue_count.false in it) (let it : chroma_taken e.args.c ≡ true = sym e.takes_chroma.ensures ∙ e.if-not-takes_chroma.false in it) (sym c.between.ensures ∙ c.if-not-between.true)
 
 pub returns-then-not-between-2 : goal.returns-then-not-between-2
 returns-then-not-between-2 c =
     let f = c.before.before in
     let e = f.before.before in
-    fourth _ _ _ _ _ (one e.before.before) (two e) (three f) (sym c.between-2.ensures ∙ c.if-not-between-2.true)
-
-four : (c : goal.Else-not-between-2) → (leb 1 c.args.step && leb c.args.step (length c.args.m.now)) ≡ true
-four c = sym c.between-2.ensures ∙ c.if-not-between-2.false
+    fourth _ _ _ _ _ (let it : hue_count_taken e.before.before.args.k ≡ true = sym e.before.before.takes_hue_count.ensures ∙ e.before.before.if-not-takes_hue_count.false in it) (let it : chroma_taken e.args.c ≡ true = sym e.takes_chroma.ensures ∙ e.if-not-takes_chroma.false in it) (let it : (leb 1 (length f.args.m.now) && leb (length f.args.m.now) 720) ≡ true = sym f.between.ensures ∙ f.if-not-between.false in it) (sym c.between-2.ensures ∙ c.if-not-between-2.true)
 
 pub returns-then-not-takes_entries : goal.returns-then-not-takes_entries
 returns-then-not-takes_entries c =
     let g = c.before.before in
     let f = g.before.before in
     let e = f.before.before in
-    fifth _ _ _ _ _ (one e.before.before) (two e) (three f) (four g) (sym c.takes_entries.ensures ∙ c.if-not-takes_entries.true)
+    fifth _ _ _ _ _ (let it : hue_count_taken e.before.before.args.k ≡ true = sym e.before.before.takes_hue_count.ensures ∙ e.before.before.if-not-takes_hue_count.false in it) (let it : chroma_taken e.args.c ≡ true = sym e.takes_chroma.ensures ∙ e.if-not-takes_chroma.false in it) (let it : (leb 1 (length f.args.m.now) && leb (length f.args.m.now) 720) ≡ true = sym f.between.ensures ∙ f.if-not-between.false in it) (let it : (leb 1 g.args.step && leb g.args.step (length g.args.m.now)) ≡ true = sym g.between-2.ensures ∙ g.if-not-between-2.false in it) (sym c.takes_entries.ensures ∙ c.if-not-takes_entries.true)
 
 pub returns-then-room-n : goal.returns-then-room-n
 returns-then-room-n c =
@@ -94,7 +82,7 @@ returns-then-room-n c =
     let e = f.before.before in
     let a = e.args in
     let less = c.if-room-n.true in
-    sixth a.k a.step a.c a.m.now a.room (one e.before.before) (two e) (three f) (four g) (let it : every entry_taken h.args.m.now ≡ true = sym h.takes_entries.ensures ∙ h.if-not-takes_entries.false in it) (omega arith)
+    sixth a.k a.step a.c a.m.now a.room (let it : hue_count_taken e.before.before.args.k ≡ true = sym e.before.before.takes_hue_count.ensures ∙ e.before.before.if-not-takes_hue_count.false in it) (let it : chroma_taken e.args.c ≡ true = sym e.takes_chroma.ensures ∙ e.if-not-takes_chroma.false in it) (let it : (leb 1 (length f.args.m.now) && leb (length f.args.m.now) 720) ≡ true = sym f.between.ensures ∙ f.if-not-between.false in it) (let it : (leb 1 g.args.step && leb g.args.step (length g.args.m.now)) ≡ true = sym g.between-2.ensures ∙ g.if-not-between-2.false in it) (let it : every entry_taken h.args.m.now ≡ true = sym h.takes_entries.ensures ∙ h.if-not-takes_entries.false in it) (omega arith)
 
 pub returns : goal.returns
 returns c =
@@ -104,4 +92,4 @@ returns c =
     let e = f.before.before in
     let a = e.args in
     let enough = c.if-room-n.false in
-    fine a.k a.step a.c a.m.now a.room (one e.before.before) (two e) (three f) (four g) (let it : every entry_taken h.args.m.now ≡ true = sym h.takes_entries.ensures ∙ h.if-not-takes_entries.false in it) (omega arith)
+    fine a.k a.step a.c a.m.now a.room (let it : hue_count_taken e.before.before.args.k ≡ true = sym e.before.before.takes_hue_count.ensures ∙ e.before.before.if-not-takes_hue_count.false in it) (let it : chroma_taken e.args.c ≡ true = sym e.takes_chroma.ensures ∙ e.if-not-takes_chroma.false in it) (let it : (leb 1 (length f.args.m.now) && leb (length f.args.m.now) 720) ≡ true = sym f.between.ensures ∙ f.if-not-between.false in it) (let it : (leb 1 g.args.step && leb g.args.step (length g.args.m.now)) ≡ true = sym g.between-2.ensures ∙ g.if-not-between-2.false in it) (let it : every entry_taken h.args.m.now ≡ true = sym h.takes_entries.ensures ∙ h.if-not-takes_entries.false in it) (omega arith)

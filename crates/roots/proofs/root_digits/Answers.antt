@@ -1,6 +1,6 @@
 -- `roots::root_digits` meets its contract. The invariant is `Taken` of `proofs/Digits.antt`: what was taken of w is root ^ n and the rest, and the root is the greatest. Assumes nothing.
 use mathlib.Core.Path.{◌≡◌}
-use mathlib.Core.Logic.{◌⊎◌, inl, inr, ⊎_elim}
+use mathlib.Core.Logic.{◌⊎◌, inl, inr}
 use Prim.Native.Nat.{ℕ, suc, ◌+◌, ◌-◌, ◌*◌, ◌%◌, ◌^◌, ◌≤◌, ◌<◌}
 use native.Mathlib.Nat.{le_of_lt, mul-le-mul}
 use native.Mathlib.Omega.{arith}
@@ -8,6 +8,7 @@ use lib.Pow.{pow_mono}
 use Rattle.roots.proofs.Powers.{rest_small}
 use Rattle.roots.proofs.Digits.{Taken, begin, one, none, finish}
 use Rattle.roots.proofs.root_digits.Goals as goal
+use Rattle.roots.proofs.root_digits.Goals.{then-step-more, else-step-more}
 
 pub power_of_two-base-requires : goal.power_of_two-base-requires
 power_of_two-base-requires c = c.requires.0
@@ -93,10 +94,10 @@ loop-i-preserved c =
     let next : l.i + 1 ≡ suc l.i = omega arith in (
       let h = c.loop-i-test.true in omega arith,
       rw next
-          (⊎_elim
-          (λ u. rw (u.1, u.2, is) (one n w l.i l.root l.rest l.tail l.invariant.1 g.result g.ensures.0 (rw is at u.0.taken)))
-          (λ u. rw (u.1, u.2, is) (none n w l.i l.root l.rest l.tail l.invariant.1 g.result g.ensures.0 (rw is at u.0.left)))
-          c.if-step-more.branch),
+          (elim c.if-step-more.branch [
+            then-step-more u ↦ rw (u.root-is, u.rest-is, is) (one n w l.i l.root l.rest l.tail l.invariant.1 g.result g.ensures.0 (rw is at u.if-step-more.true))
+          | else-step-more u ↦ rw (u.root-is, u.rest-is, is) (none n w l.i l.root l.rest l.tail l.invariant.1 g.result g.ensures.0 (rw is at u.if-step-more.false))
+          ]),
     )
 
 pub returns : goal.returns

@@ -42,10 +42,6 @@ not_taken : (n : ℕ) (x : Float) → root_operand_taken x ≡ false → refused
 unfolding root_says
 not_taken n x f = rw f
 
--- what owning an f32 tells
-held : (c : goal.Start) → T (fits binary32 c.args.x)
-held c = subst T (sym c.well_formed.1.0.1) tt
-
 taken : (c : goal.Then-takes_root_operand) → root_operand_taken c.args.x ≡ true
 taken c = sym c.takes_root_operand.ensures ∙ c.if-takes_root_operand.true
 
@@ -59,13 +55,13 @@ returns-then-bits-eq0 c =
     let x = s.args.x in
     let b : to_bits binary32 x ≡ 0 = c.if-bits-eq0.true in
     let z : least (half_way n (worth (to_bits binary32 x)) (2 ^ 149)) 31 0 ≡ 0 = rw b (zero_root n s.requires) in
-    rw z at (by_pattern n x (held s) (taken c.before))
+    rw z at (by_pattern n x (let it : T (fits binary32 s.args.x) = subst T (sym s.well_formed.1.0.1) tt in it) (taken c.before))
 
 pub root_bits-requires : goal.root_bits-requires
 root_bits-requires c =
     let s = c.before.before.before in
     let ne = c.if-bits-eq0.false in
-    (s.requires, (omega arith, operand_pattern s.args.x (held s) (taken c.before)))
+    (s.requires, (omega arith, operand_pattern s.args.x (let it : T (fits binary32 s.args.x) = subst T (sym s.well_formed.1.0.1) tt in it) (taken c.before)))
 
 pub float_from_bits-result : goal.float_from_bits-result
 float_from_bits-result c = no_nan _ c.root_bits.ensures.1
@@ -73,7 +69,7 @@ float_from_bits-result c = no_nan _ c.root_bits.ensures.1
 pub returns-then-takes_root_operand : goal.returns-then-takes_root_operand
 returns-then-takes_root_operand c =
     let s = c.before.before.before.before in
-    rw c.root_bits.ensures.0 (by_pattern s.args.n s.args.x (held s) (taken c.before.before))
+    rw c.root_bits.ensures.0 (by_pattern s.args.n s.args.x (let it : T (fits binary32 s.args.x) = subst T (sym s.well_formed.1.0.1) tt in it) (taken c.before.before))
 
 pub returns : goal.returns
 returns c = not_taken _ _ (sym c.takes_root_operand.ensures ∙ c.if-takes_root_operand.false)
