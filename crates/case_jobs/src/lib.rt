@@ -1,5 +1,6 @@
 // Job records by the words of a line, in an answer and in a digest.
 #![tactic(auto)]
+
 use case_lines::answers::Answer;
 use case_lines::words::{float_at, size_at};
 use case_lines::{digest, hues};

@@ -77,7 +77,7 @@ impl Answer {
     }
 
     // Writes it as the answer to a case.
-    pub fn write(self, line: Line) {
+    pub fn write(self, rt: &impl Print, line: Line) {
         let asked = line.words;
         let words = self.words;
         Text::new()
@@ -87,7 +87,7 @@ impl Answer {
             .with_byte(b'=')
             .with_words(words, self.count)
             .with_byte(b'\n')
-            .write();
+            .write(rt);
     }
 }
 
@@ -182,25 +182,25 @@ impl Text {
     }
 
     // Writes it.
-    fn write(self) {
+    fn write(self, rt: &impl Print) {
         let bytes = self.bytes;
-        say_first(bytes, self.length);
+        say_first(rt, bytes, self.length);
     }
 }
 
 // Writes the first bytes of a line.
-fn say_first(bytes: [u8; ROOM], length: usize) {
+fn say_first(rt: &impl Print, bytes: [u8; ROOM], length: usize) {
     if length <= ROOM {
-        say(&bytes[0..length]);
+        say(rt, &bytes[0..length]);
     }
 }
 
-// Writes bytes to standard output.
-pub fn say(bytes: &[u8]) {
-    io::write_all(libc::STDOUT_FILENO, bytes);
+// Writes bytes to standard output, as many as it takes.
+pub fn say(rt: &impl Print, bytes: &[u8]) {
+    let _ = rt.write_all(bytes);
 }
 
 // Answers a line that a list may not have.
-pub fn malformed() {
-    say(b"malformed\n");
+pub fn malformed(rt: &impl Print) {
+    say(rt, b"malformed\n");
 }

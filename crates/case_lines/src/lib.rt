@@ -1,5 +1,6 @@
 // A list of cases, read from standard input line by line, what the words of a line say, and the lines that a program answers.
 #![tactic(auto)]
+
 pub mod answers;
 pub mod digest;
 pub mod entries;
@@ -8,6 +9,7 @@ pub mod words;
 pub mod work_buffer;
 
 use cases::{Found, Line};
+use std::io::Read;
 
 // How many turns a program takes at most, each for one line or one reading: more than any list needs.
 pub const TURNS: u64 = 0x100_0000_0000;
@@ -44,7 +46,7 @@ impl Reader {
     }
 
     // With the next byte at a place, and this as the line read last; one that a list may not have is answered.
-    fn with_line(mut self, line: Line, at: usize) -> Reader {
+    fn with_line(mut self, rt: &impl Print, line: Line, at: usize) -> Reader {
         self.line = line;
         self.at = at;
         match line.found() {
@@ -55,14 +57,14 @@ impl Reader {
                 self
             }
             Found::Malformed => {
-                answers::malformed();
+                answers::malformed(rt);
                 self
             }
         }
     }
 
     // With bytes taken up to the end of a line, or all that were read.
-    fn fed(self) -> Reader {
+    fn fed(self, rt: &impl Print) -> Reader {
         let bytes = self.buffer;
         let end = self.end;
         let mut line = self.line;
@@ -71,19 +73,19 @@ impl Reader {
             line = line.fed(bytes[at]);
             at += 1;
             if line.ended || end <= at {
-                return self.with_line(line, at);
+                return self.with_line(rt, line, at);
             }
         }
-        self.with_line(line, at)
+        self.with_line(rt, line, at)
     }
 
     // With the end reached: a line that was cut is answered.
-    fn ended(mut self) -> Reader {
+    fn ended(mut self, rt: &impl Print) -> Reader {
         let line = self.line;
         self.more = false;
         match line.left() {
             Found::Malformed => {
-                answers::malformed();
+                answers::malformed(rt);
                 self
             }
             Found::Open => self,
@@ -93,27 +95,34 @@ impl Reader {
     }
 
     // With bytes read once.
-    fn refilled(mut self) -> Reader {
+    fn refilled(mut self, rt: &impl Print, input: &mut impl Read) -> Reader {
         let mut buffer = [0u8; READ];
-        let got = libc::read(libc::STDIN_FILENO, &mut buffer);
+        let got = input.read(&mut buffer);
         self.at = 0;
-        self.end = io::count(got, &buffer);
         self.buffer = buffer;
-        if got < 0 {
-            answers::say(b"unread\n");
+        match got {
+            Ok(0) => {
+                self.end = 0;
+                self.ended(rt)
+            }
+            Ok(count) => {
+                self.end = count;
+                self
+            }
+            Err(_) => {
+                self.end = 0;
+                answers::say(rt, b"unread\n");
+                self.ended(rt)
+            }
         }
-        if got <= 0 {
-            return self.ended();
-        }
-        self
     }
 
     // One turn: takes the bytes that were read up to the end of a line, or reads more.
-    pub fn read_on(mut self) -> Reader {
+    pub fn read_on(mut self, rt: &impl Print, input: &mut impl Read) -> Reader {
         self.case = false;
         if self.at < self.end {
-            return self.fed();
+            return self.fed(rt);
         }
-        self.refilled()
+        self.refilled(rt, input)
     }
 }

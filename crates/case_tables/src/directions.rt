@@ -50,14 +50,14 @@ impl Directions {
     }
 
     // With the direction that the words say; one that there is not is answered.
-    pub fn set(mut self, words: Words) -> Directions {
+    pub fn set(mut self, rt: &impl Print, words: Words) -> Directions {
         let j = size_at(words, 0);
         if j < 720 {
             self.cos[j] = float_at(words, 1);
             self.sin[j] = float_at(words, 2);
             return self;
         }
-        answers::malformed();
+        answers::malformed(rt);
         self
     }
 
@@ -161,39 +161,39 @@ impl Lending {
     }
 
     // With a direction set.
-    pub fn with_dir(mut self, words: Words) -> Lending {
+    pub fn with_dir(mut self, rt: &impl Print, words: Words) -> Lending {
         let directions = self.directions;
-        let next = directions.set(words);
+        let next = directions.set(rt, words);
         self.directions = next;
         self
     }
 
     // With this lent to the next case, if the line may come.
-    fn lending(mut self, may: bool, lent: Lent) -> Lending {
+    fn lending(mut self, rt: &impl Print, may: bool, lent: Lent) -> Lending {
         if may {
             self.lent = lent;
             return self;
         }
-        answers::malformed();
+        answers::malformed(rt);
         self
     }
 
     // With another component for the next case.
-    pub fn with_bad(self, words: Words) -> Lending {
+    pub fn with_bad(self, rt: &impl Print, words: Words) -> Lending {
         let lent = self.lent;
-        self.lending(lent.takes_bad(words), lent.with_bad(words))
+        self.lending(rt, lent.takes_bad(words), lent.with_bad(words))
     }
 
     // With other numbers of cosines and sines for the next case, up to the most.
-    pub fn with_len(self, words: Words, most: u32) -> Lending {
+    pub fn with_len(self, rt: &impl Print, words: Words, most: u32) -> Lending {
         let lent = self.lent;
-        self.lending(lent.takes_len(words, most), lent.with_len(words))
+        self.lending(rt, lent.takes_len(words, most), lent.with_len(words))
     }
 
     // With a row of another length for the next case, up to the most.
-    pub fn with_size(self, words: Words, most: u32) -> Lending {
+    pub fn with_size(self, rt: &impl Print, words: Words, most: u32) -> Lending {
         let lent = self.lent;
-        self.lending(lent.takes_size(words, most), lent.with_size(words))
+        self.lending(rt, lent.takes_size(words, most), lent.with_size(words))
     }
 
     // The directions that the next case is lent, if it is lent them all.
@@ -211,10 +211,10 @@ impl Lending {
     }
 
     // Answers a line that still waits for a case at the end.
-    pub fn finish(self) {
+    pub fn finish(self, rt: &impl Print) {
         let lent = self.lent;
         if lent.waits() {
-            answers::malformed();
+            answers::malformed(rt);
         }
     }
 }

@@ -1,6 +1,7 @@
 // The lines that set a table. It is kept in one array, of which the first entries are lent. A line that a list may not have is
 // answered.
 #![tactic(auto)]
+
 pub mod directions;
 
 use crate::directions::Directions;
@@ -168,44 +169,44 @@ impl Tables {
     }
 
     // With a direction set.
-    fn with_dir(mut self, words: Words) -> Tables {
+    fn with_dir(mut self, rt: &impl Print, words: Words) -> Tables {
         let directions = self.directions;
-        let next = directions.set(words);
+        let next = directions.set(rt, words);
         self.directions = next;
         self
     }
 
     // With this length, if a table can have it.
-    fn with_length(mut self, length: usize) -> Tables {
+    fn with_length(mut self, rt: &impl Print, length: usize) -> Tables {
         if length <= STORED {
             self.length = length;
             return self;
         }
-        answers::malformed();
+        answers::malformed(rt);
         self
     }
 
     // With entries set as a line says.
-    fn with_entries(self, line: Line, table: &mut [f32; 122400]) -> Tables {
+    fn with_entries(self, rt: &impl Print, line: Line, table: &mut [f32; 122400]) -> Tables {
         let directions = self.directions;
         if !set_entries(line, table, directions) {
-            answers::malformed();
+            answers::malformed(rt);
         }
         self
     }
 
     // With what a line sets.
-    pub fn set(self, line: Line, table: &mut [f32; 122400]) -> Tables {
+    pub fn set(self, rt: &impl Print, line: Line, table: &mut [f32; 122400]) -> Tables {
         let operation = line.operation;
         let words = line.words;
         if !takes(operation, line.count) {
-            answers::malformed();
+            answers::malformed(rt);
             return self;
         }
         match operation {
-            crate::directions::DIR => self.with_dir(words),
-            TABLE => self.with_length(size_at(words, 0)),
-            _ => self.with_entries(line, table),
+            crate::directions::DIR => self.with_dir(rt, words),
+            TABLE => self.with_length(rt, size_at(words, 0)),
+            _ => self.with_entries(rt, line, table),
         }
     }
 }

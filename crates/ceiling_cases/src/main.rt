@@ -1,6 +1,7 @@
 // Answers a list of cases for the crate `ceiling`: the best so far of a job with the ceiling of the pairs still to come.
 // `compare/driver/lists/ceiling.rs` says what the list holds.
 #![tactic(auto)]
+
 use case_lines::answers::Answer;
 use case_lines::words::size_at;
 use case_lines::{Reader, answers};
@@ -8,6 +9,7 @@ use case_tables::Tables;
 use cases::Line;
 use ceiling::Outlook;
 use search_rules::Job;
+use std::io::Read;
 
 // ceiling p = number found .. left ..: `look_ahead` for the job at position p: the number of its refusal alone; or 0, the best, 1 with its
 // chroma and its level indices or 0 alone, and 1 and the ceiling, or 0 alone where no qualifying pair is left
@@ -26,11 +28,11 @@ fn came_out(outlook: Outlook) -> Answer {
 }
 
 // Answers a case over a table.
-fn answer(line: Line, table: &[f32], lent: Job) {
+fn answer(rt: &impl Print, line: Line, table: &[f32], lent: Job) {
     let words = line.words;
     let mut job = lent;
     job.position = size_at(words, 0);
-    came_out(ceiling::look_ahead(job, table)).write(line);
+    came_out(ceiling::look_ahead(job, table)).write(rt, line);
 }
 
 // Whether a line of an operation may have so many words.
@@ -44,18 +46,18 @@ fn takes(operation: u64, count: usize) -> bool {
 }
 
 // The job after a line, which is answered if it is a case; the table is the first entries.
-fn take_line(line: Line, entries: &[f32], length: usize, job: Job) -> Job {
+fn take_line(rt: &impl Print, line: Line, entries: &[f32], length: usize, job: Job) -> Job {
     let operation = line.operation;
     let words = line.words;
     if !takes(operation, line.count) || entries.len() < length {
-        answers::malformed();
+        answers::malformed(rt);
         return job;
     }
     match operation {
         case_jobs::JOB => case_jobs::job_of(words, line.count),
         case_jobs::BEST => case_jobs::with_best(job, words),
         _ => {
-            answer(line, &entries[0..length], job);
+            answer(rt, line, &entries[0..length], job);
             job
         }
     }
@@ -79,36 +81,37 @@ impl State {
     }
 
     // With a line taken, which is answered if it is a case.
-    fn with_line(mut self, line: Line, entries: &mut [f32; 122400]) -> State {
+    fn with_line(mut self, rt: &impl Print, line: Line, entries: &mut [f32; 122400]) -> State {
         let tables = self.tables;
         let job = self.job;
         if case_tables::sets(line.operation) {
-            let next = tables.set(line, entries);
+            let next = tables.set(rt, line, entries);
             self.tables = next;
             return self;
         }
-        let next = take_line(line, entries, tables.length, job);
+        let next = take_line(rt, line, entries, tables.length, job);
         self.job = next;
         self
     }
 }
 
 // Reads the list to its end. A proved loop ends, so it counts turns down.
-fn take_all(entries: &mut [f32; 122400]) {
+fn take_all(rt: &impl Print, input: &mut impl Read, entries: &mut [f32; 122400]) {
     let mut reader = Reader::new();
     let mut state = State::new();
     let mut turns = case_lines::TURNS;
     while turns > 0 && reader.more {
-        reader = reader.read_on();
+        reader = reader.read_on(rt, input);
         if reader.case {
-            state = state.with_line(reader.line, entries);
+            state = state.with_line(rt, reader.line, entries);
         }
         turns -= 1;
     }
 }
 
 // Answers the list.
-fn main() {
+fn main(rt: HostRuntime) {
+    let mut input = rt.reader();
     let mut entries = [0.0f32; 122400];
-    take_all(&mut entries);
+    take_all(&rt, &mut input, &mut entries);
 }

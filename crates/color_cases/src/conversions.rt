@@ -142,13 +142,13 @@ fn of_lab(operation: u64, c: Lab) -> Answer {
 }
 
 // Answers a case over codes, if its words are codes.
-fn answer_codes(line: Line) {
+fn answer_codes(rt: &impl Print, line: Line) {
     let words = line.words;
     if has_codes(words) {
-        of_codes(line.operation, codes_of(words)).write(line);
+        of_codes(line.operation, codes_of(words)).write(rt, line);
         return;
     }
-    answers::malformed();
+    answers::malformed(rt);
 }
 
 // What comes out of an operation over floats.
@@ -167,11 +167,11 @@ fn of_floats(operation: u64, words: Words) -> Answer {
 }
 
 // Answers a case.
-pub fn answer(line: Line) {
+pub fn answer(rt: &impl Print, line: Line) {
     let operation = line.operation;
     let words = line.words;
     match operation {
-        operations::S2L | operations::S2LAB => answer_codes(line),
-        _ => of_floats(operation, words).write(line),
+        operations::S2L | operations::S2LAB => answer_codes(rt, line),
+        _ => of_floats(operation, words).write(rt, line),
     }
 }

@@ -16,22 +16,29 @@ fn found(line: Line, cos: &[f32], sin: &[f32]) -> Answer {
 }
 
 // Answers with the hue among the first cosines and sines.
-fn answer_lent(line: Line, cos: [f32; 720], cosines: usize, sin: [f32; 720], sines: usize) {
+fn answer_lent(
+    rt: &impl Print,
+    line: Line,
+    cos: [f32; 720],
+    cosines: usize,
+    sin: [f32; 720],
+    sines: usize,
+) {
     if cosines <= 720 {
         if sines <= 720 {
-            found(line, &cos[0..cosines], &sin[0..sines]).write(line);
+            found(line, &cos[0..cosines], &sin[0..sines]).write(rt, line);
             return;
         }
     }
-    answers::malformed();
+    answers::malformed(rt);
 }
 
 // Answers with a hue, with what waited for it.
-pub fn answer(line: Line, lending: Lending) -> Lending {
+pub fn answer(rt: &impl Print, line: Line, lending: Lending) -> Lending {
     let lent = lending.lent;
     let all = lending.lends();
     let cos = all.cos;
     let sin = all.sin;
-    answer_lent(line, cos, lent.cosines, sin, lent.sines);
+    answer_lent(rt, line, cos, lent.cosines, sin, lent.sines);
     lending.after_case()
 }

@@ -36,7 +36,7 @@ fn filled(level: usize, cos: &[f32], sin: &[f32], row: &mut [f32]) -> Answer {
 }
 
 // Answers with a row of the length that is lent, in the first cosines and sines.
-fn answer_lent(line: Line, lent: Lent, cos: [f32; 720], sin: [f32; 720]) {
+fn answer_lent(rt: &impl Print, line: Line, lent: Lent, cos: [f32; 720], sin: [f32; 720]) {
     let words = line.words;
     let mut row = [0.0f32; 800];
     let cosines = lent.cosines;
@@ -46,20 +46,20 @@ fn answer_lent(line: Line, lent: Lent, cos: [f32; 720], sin: [f32; 720]) {
         if sines <= 720 {
             if entries <= 800 {
                 let part = &mut row[0..entries];
-                filled(size_at(words, 0), &cos[0..cosines], &sin[0..sines], part).write(line);
+                filled(size_at(words, 0), &cos[0..cosines], &sin[0..sines], part).write(rt, line);
                 return;
             }
         }
     }
-    answers::malformed();
+    answers::malformed(rt);
 }
 
 // Answers with a row, with what waited for it.
-pub fn answer(line: Line, lending: Lending) -> Lending {
+pub fn answer(rt: &impl Print, line: Line, lending: Lending) -> Lending {
     let lent = lending.lent;
     let all = lending.lends();
     let cos = all.cos;
     let sin = all.sin;
-    answer_lent(line, lent, cos, sin);
+    answer_lent(rt, line, lent, cos, sin);
     lending.after_case()
 }

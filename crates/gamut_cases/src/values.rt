@@ -12,7 +12,7 @@ fn lightness(level: u32) -> f32 {
 }
 
 // Answers with the entry of a level in a direction.
-pub fn answer_entry(line: Line, all: Directions) {
+pub fn answer_entry(rt: &impl Print, line: Line, all: Directions) {
     let words = line.words;
     let cos = all.cos;
     let sin = all.sin;
@@ -21,27 +21,27 @@ pub fn answer_entry(line: Line, all: Directions) {
     if level < 0x1_0000 {
         if j < 720 {
             let entry = gamut::max_chroma(lightness(level), cos[j], sin[j]);
-            Answer::new().with_float(entry).write(line);
+            Answer::new().with_float(entry).write(rt, line);
             return;
         }
     }
-    answers::malformed();
+    answers::malformed(rt);
 }
 
 // Answers with the chroma found at a lightness in a direction.
-pub fn answer_chroma(line: Line) {
+pub fn answer_chroma(rt: &impl Print, line: Line) {
     let words = line.words;
     let chroma = gamut::max_chroma(float_at(words, 0), float_at(words, 1), float_at(words, 2));
-    Answer::new().with_float(chroma).write(line);
+    Answer::new().with_float(chroma).write(rt, line);
 }
 
 // Answers with the lightness of a level.
-pub fn answer_lightness(line: Line) {
+pub fn answer_lightness(rt: &impl Print, line: Line) {
     let words = line.words;
     let level = word_at(words, 0);
     if level < 0x1_0000 {
-        Answer::new().with_float(lightness(level)).write(line);
+        Answer::new().with_float(lightness(level)).write(rt, line);
         return;
     }
-    answers::malformed();
+    answers::malformed(rt);
 }

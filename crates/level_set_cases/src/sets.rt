@@ -63,7 +63,7 @@ fn best(line: Line, levels: &[usize], table: &[f32], work: &mut [u16]) -> Answer
 }
 
 // Answers with the best of the levels listed, in a work buffer of the length that the words say.
-pub fn answer(line: Line, list: Words, table: &[f32]) {
+pub fn answer(rt: &impl Print, line: Line, list: Words, table: &[f32]) {
     let words = line.words;
     let levels = indices_of(list);
     let listed = size_at(list, 0);
@@ -72,9 +72,9 @@ pub fn answer(line: Line, list: Words, table: &[f32]) {
     if listed <= LISTED {
         if room <= 2400 {
             let part = &mut work[0..room];
-            best(line, &levels[0..listed], table, part).write(line);
+            best(line, &levels[0..listed], table, part).write(rt, line);
             return;
         }
     }
-    answers::malformed();
+    answers::malformed(rt);
 }

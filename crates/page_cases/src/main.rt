@@ -1,6 +1,7 @@
 // Answers a list of cases for the crate `page`: the page of a job as it is, after the number of a refusal, the count of its bytes, and
 // the digest of the whole buffer. `compare/driver/lists/page.rs` says what the list holds.
 #![tactic(auto)]
+
 mod pages;
 
 use case_lines::{Reader, answers};
@@ -22,32 +23,33 @@ fn takes(operation: u64, count: usize) -> bool {
 }
 
 // The job after a line, which is answered if it is a case.
-fn take_line(line: Line, job: Job) -> Job {
+fn take_line(rt: &impl Print, line: Line, job: Job) -> Job {
     let operation = line.operation;
     let words = line.words;
     if !takes(operation, line.count) {
-        answers::malformed();
+        answers::malformed(rt);
         return job;
     }
     match operation {
         case_jobs::JOB => case_jobs::job_of(words, line.count),
         case_jobs::BEST => case_jobs::with_best(job, words),
         _ => {
-            pages::answer(line, job);
+            pages::answer(rt, line, job);
             job
         }
     }
 }
 
 // Reads the list to its end. A proved loop ends, so it counts turns down.
-fn main() {
+fn main(rt: HostRuntime) {
+    let mut input = rt.reader();
     let mut reader = Reader::new();
     let mut job = case_jobs::blank();
     let mut turns = case_lines::TURNS;
     while turns > 0 && reader.more {
-        reader = reader.read_on();
+        reader = reader.read_on(&rt, &mut input);
         if reader.case {
-            job = take_line(reader.line, job);
+            job = take_line(&rt, reader.line, job);
         }
         turns -= 1;
     }

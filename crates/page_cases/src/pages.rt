@@ -57,7 +57,7 @@ fn count_of(laid: Laid) -> usize {
 }
 
 // Answers with the page of a job in this buffer.
-fn answer_in(line: Line, page: &mut [u8], job: Job) {
+fn answer_in(rt: &impl Print, line: Line, page: &mut [u8], job: Job) {
     let words = line.words;
     fill_all(page, word_at(words, 1));
     let laid = page::lay_out(job, page);
@@ -66,20 +66,20 @@ fn answer_in(line: Line, page: &mut [u8], job: Job) {
         .with_byte(number_of(laid))
         .with_size(count)
         .with_digest(digest_of(page))
-        .write(line);
+        .write(rt, line);
     if count <= page.len() {
-        answers::say(&page[0..count]);
+        answers::say(rt, &page[0..count]);
     }
 }
 
 // Answers with the page of a job in a buffer of the length that the words say.
-pub fn answer(line: Line, job: Job) {
+pub fn answer(rt: &impl Print, line: Line, job: Job) {
     let words = line.words;
     let mut buffer = [0u8; 1024];
     let size = size_at(words, 0);
     if size <= ROOM {
-        answer_in(line, &mut buffer[0..size], job);
+        answer_in(rt, line, &mut buffer[0..size], job);
         return;
     }
-    answers::malformed();
+    answers::malformed(rt);
 }

@@ -44,7 +44,14 @@ fn best(line: Line, a: &[f32], b: &[f32], work: &mut [u16]) -> Answer {
 }
 
 // Answers with the best of two rows of these lengths, in a work buffer of the length that the words say.
-fn answer_over(line: Line, a: [f32; 800], first: usize, b: [f32; 800], second: usize) {
+fn answer_over(
+    rt: &impl Print,
+    line: Line,
+    a: [f32; 800],
+    first: usize,
+    b: [f32; 800],
+    second: usize,
+) {
     let words = line.words;
     let mut work = [0u16; 2400];
     let room = size_at(words, 3);
@@ -52,17 +59,17 @@ fn answer_over(line: Line, a: [f32; 800], first: usize, b: [f32; 800], second: u
         if first <= 800 {
             if second <= 800 {
                 let part = &mut work[0..room];
-                best(line, &a[0..first], &b[0..second], part).write(line);
+                best(line, &a[0..first], &b[0..second], part).write(rt, line);
                 return;
             }
         }
     }
-    answers::malformed();
+    answers::malformed(rt);
 }
 
 // Answers with the best of two rows.
-pub fn answer(line: Line, first: Row, second: Row) {
+pub fn answer(rt: &impl Print, line: Line, first: Row, second: Row) {
     let a = first.entries;
     let b = second.entries;
-    answer_over(line, a, first.length, b, second.length);
+    answer_over(rt, line, a, first.length, b, second.length);
 }

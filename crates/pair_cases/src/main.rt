@@ -1,6 +1,7 @@
 // Answers a list of cases for the crate `pair`: the best of two rows with its tightest gap, the bits of its chroma, all of its
 // sixteen hues and the work buffer after a refusal. `compare/driver/lists/pair.rs` says what the list holds.
 #![tactic(auto)]
+
 mod best;
 mod rows;
 
@@ -15,7 +16,7 @@ use rows::Rows;
 const BEST: u64 = 0x6265_7374;
 
 // The rows with one of them as a line sets it, if it can be set so.
-fn set(line: Line, rows: Rows) -> Rows {
+fn set(rt: &impl Print, line: Line, rows: Rows) -> Rows {
     let operation = line.operation;
     let words = line.words;
     let count = line.count;
@@ -24,32 +25,33 @@ fn set(line: Line, rows: Rows) -> Rows {
     if which < 2 && rows::takes(operation, words, count, row) {
         return rows.replaced(which, rows::set(operation, words, count, row));
     }
-    answers::malformed();
+    answers::malformed(rt);
     rows
 }
 
 // The rows after a line, which is answered if it is a case.
-fn take_line(line: Line, rows: Rows) -> Rows {
+fn take_line(rt: &impl Print, line: Line, rows: Rows) -> Rows {
     if line.operation != BEST {
-        return set(line, rows);
+        return set(rt, line, rows);
     }
     if line.count == 4 {
-        best::answer(line, rows.at(0), rows.at(1));
+        best::answer(rt, line, rows.at(0), rows.at(1));
         return rows;
     }
-    answers::malformed();
+    answers::malformed(rt);
     rows
 }
 
 // Reads the list to its end. A proved loop ends, so it counts turns down.
-fn main() {
+fn main(rt: HostRuntime) {
+    let mut input = rt.reader();
     let mut reader = Reader::new();
     let mut rows = Rows::new();
     let mut turns = case_lines::TURNS;
     while turns > 0 && reader.more {
-        reader = reader.read_on();
+        reader = reader.read_on(&rt, &mut input);
         if reader.case {
-            rows = take_line(reader.line, rows);
+            rows = take_line(&rt, reader.line, rows);
         }
         turns -= 1;
     }

@@ -102,6 +102,7 @@ fn lengthened(components: [f32; 720]) -> [f32; 721] {
 
 // Answers a case, with the first cosines and sines.
 fn answer_lent(
+    rt: &impl Print,
     line: Line,
     lent: Lent,
     cos: [f32; 721],
@@ -113,18 +114,26 @@ fn answer_lent(
     let sines = lent.sines;
     if cosines <= 721 {
         if sines <= 721 {
-            called(line, design, given, &cos[0..cosines], &sin[0..sines]).write(line);
+            called(line, design, given, &cos[0..cosines], &sin[0..sines]).write(rt, line);
             return;
         }
     }
-    answers::malformed();
+    answers::malformed(rt);
 }
 
 // Answers a case, with what waited for it.
-pub fn answer(line: Line, lending: Lending, design: Design, given: Words) {
+pub fn answer(rt: &impl Print, line: Line, lending: Lending, design: Design, given: Words) {
     let lent = lending.lent;
     let all = lending.lends();
     let cos = all.cos;
     let sin = all.sin;
-    answer_lent(line, lent, lengthened(cos), lengthened(sin), design, given);
+    answer_lent(
+        rt,
+        line,
+        lent,
+        lengthened(cos),
+        lengthened(sin),
+        design,
+        given,
+    );
 }

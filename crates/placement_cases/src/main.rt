@@ -2,6 +2,7 @@
 // sixteen hues and the work buffer after a refusal, and sweeps by their digest. `compare/driver/lists/placement.rs` says what the list
 // holds.
 #![tactic(auto)]
+
 mod places;
 mod sweeps;
 
@@ -38,53 +39,54 @@ fn takes(operation: u64, count: usize) -> bool {
 }
 
 // The ring with this length and the entries that the words after the first say from a place on, if a ring can have them.
-fn set(line: Line, ring: Row, at: usize, length: usize) -> Row {
+fn set(rt: &impl Print, line: Line, ring: Row, at: usize, length: usize) -> Row {
     let words = line.words;
     let count = line.count;
     if length <= 800 && entries::words_fit(at, 1, count, length) {
         return ring.long(length).put(at, words, 1, count);
     }
-    answers::malformed();
+    answers::malformed(rt);
     ring
 }
 
 // Answers a case.
-fn answer(line: Line, ring: Row) {
+fn answer(rt: &impl Print, line: Line, ring: Row) {
     let operation = line.operation;
     match operation {
-        STEP => places::answer_step(line),
-        PLACE => places::answer(line, ring),
-        _ => sweeps::answer(line, ring),
+        STEP => places::answer_step(rt, line),
+        PLACE => places::answer(rt, line, ring),
+        _ => sweeps::answer(rt, line, ring),
     }
 }
 
 // The ring after a line, which is answered if it is a case.
-fn take_line(line: Line, ring: Row) -> Row {
+fn take_line(rt: &impl Print, line: Line, ring: Row) -> Row {
     let operation = line.operation;
     let words = line.words;
     if !takes(operation, line.count) {
-        answers::malformed();
+        answers::malformed(rt);
         return ring;
     }
     match operation {
-        RING => set(line, ring, 0, size_at(words, 0)),
-        MORE => set(line, ring, size_at(words, 0), ring.length),
+        RING => set(rt, line, ring, 0, size_at(words, 0)),
+        MORE => set(rt, line, ring, size_at(words, 0), ring.length),
         _ => {
-            answer(line, ring);
+            answer(rt, line, ring);
             ring
         }
     }
 }
 
 // Reads the list to its end. A proved loop ends, so it counts turns down.
-fn main() {
+fn main(rt: HostRuntime) {
+    let mut input = rt.reader();
     let mut reader = Reader::new();
     let mut ring = Row::new();
     let mut turns = case_lines::TURNS;
     while turns > 0 && reader.more {
-        reader = reader.read_on();
+        reader = reader.read_on(&rt, &mut input);
         if reader.case {
-            ring = take_line(reader.line, ring);
+            ring = take_line(&rt, reader.line, ring);
         }
         turns -= 1;
     }

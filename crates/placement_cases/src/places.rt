@@ -8,11 +8,14 @@ use placement::Placement;
 use placement_checks::Stepping;
 
 // Answers with the step for a hue count.
-pub fn answer_step(line: Line) {
+pub fn answer_step(rt: &impl Print, line: Line) {
     let words = line.words;
     match placement_checks::step_for(size_at(words, 0)) {
-        Stepping::Is(step) => Answer::new().with(0).with_size(step).write(line),
-        Stepping::Refused(why) => Answer::new().with_byte(why.number()).with(0).write(line),
+        Stepping::Is(step) => Answer::new().with(0).with_size(step).write(rt, line),
+        Stepping::Refused(why) => Answer::new()
+            .with_byte(why.number())
+            .with(0)
+            .write(rt, line),
     }
 }
 
@@ -55,22 +58,22 @@ fn placed(line: Line, m: &[f32], work: &mut [u16]) -> Answer {
 }
 
 // Answers with a placement on a ring of this length, in a work buffer of the length that the words say.
-fn answer_on(line: Line, entries: [f32; 800], length: usize) {
+fn answer_on(rt: &impl Print, line: Line, entries: [f32; 800], length: usize) {
     let words = line.words;
     let mut work = [0u16; 2400];
     let room = size_at(words, 3);
     if length <= 800 {
         if room <= 2400 {
             let part = &mut work[0..room];
-            placed(line, &entries[0..length], part).write(line);
+            placed(line, &entries[0..length], part).write(rt, line);
             return;
         }
     }
-    answers::malformed();
+    answers::malformed(rt);
 }
 
 // Answers with a placement on a ring.
-pub fn answer(line: Line, ring: Row) {
+pub fn answer(rt: &impl Print, line: Line, ring: Row) {
     let entries = ring.entries;
-    answer_on(line, entries, ring.length);
+    answer_on(rt, line, entries, ring.length);
 }

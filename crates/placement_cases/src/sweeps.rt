@@ -98,7 +98,7 @@ fn swept(sum: Sum, ring: [f32; 800], length: usize, words: Words, count: usize) 
 }
 
 // Answers with the digest of a sweep.
-pub fn answer(line: Line, ring: Row) {
+pub fn answer(rt: &impl Print, line: Line, ring: Row) {
     let words = line.words;
     let entries = ring.entries;
     let none = Sum {
@@ -106,5 +106,5 @@ pub fn answer(line: Line, ring: Row) {
         seed: work_buffer::seed_of(line.number),
     };
     let sum = swept(none, entries, ring.length, words, line.count);
-    Answer::new().with_digest(sum.digest).write(line);
+    Answer::new().with_digest(sum.digest).write(rt, line);
 }

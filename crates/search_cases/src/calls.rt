@@ -45,31 +45,31 @@ fn worked_out(outcome: Outcome, left: u64) -> Answer {
 }
 
 // Answers with a start, and gives the job after it.
-fn answer_start(line: Line, table: &[f32], lent: Job) -> Job {
+fn answer_start(rt: &impl Print, line: Line, table: &[f32], lent: Job) -> Job {
     let words = line.words;
     let settings = case_jobs::settings_of(words);
     let outcome = search::start(settings, table, lent);
-    came_out(outcome).write(line);
+    came_out(outcome).write(rt, line);
     outcome.job
 }
 
 // Answers with a step in this work buffer, and gives the job after it.
-fn answer_step(line: Line, table: &[f32], work: &mut [u16], lent: Job) -> Job {
+fn answer_step(rt: &impl Print, line: Line, table: &[f32], work: &mut [u16], lent: Job) -> Job {
     let seed = work_buffer::seed_of(line.number);
     work_buffer::fill(work, seed);
     let outcome = search::step(table, work, lent);
-    worked_out(outcome, work_buffer::digest_of(work)).write(line);
+    worked_out(outcome, work_buffer::digest_of(work)).write(rt, line);
     outcome.job
 }
 
 // Answers with a whole search in this work buffer, and gives the job after it.
-fn answer_search(line: Line, table: &[f32], work: &mut [u16], lent: Job) -> Job {
+fn answer_search(rt: &impl Print, line: Line, table: &[f32], work: &mut [u16], lent: Job) -> Job {
     let words = line.words;
     let seed = work_buffer::seed_of(line.number);
     let settings = case_jobs::settings_of(words);
     work_buffer::fill(work, seed);
     let outcome = search::search(settings, table, work, lent);
-    worked_out(outcome, work_buffer::digest_of(work)).write(line);
+    worked_out(outcome, work_buffer::digest_of(work)).write(rt, line);
     outcome.job
 }
 
@@ -128,14 +128,14 @@ fn steps(count: usize, seed: u32, table: &[f32], work: &mut [u16], lent: Job) ->
 }
 
 // Answers with so many steps in this work buffer, and gives the job after them.
-fn answer_steps(line: Line, table: &[f32], work: &mut [u16], lent: Job) -> Job {
+fn answer_steps(rt: &impl Print, line: Line, table: &[f32], work: &mut [u16], lent: Job) -> Job {
     let words = line.words;
     let seed = work_buffer::seed_of(line.number);
     let sum = steps(size_at(words, 0), seed, table, work, lent);
     Answer::new()
         .with_digest(sum.digest)
         .with_digest(sum.left)
-        .write(line);
+        .write(rt, line);
     sum.job
 }
 
@@ -150,25 +150,25 @@ fn room_of(operation: u64, words: Words) -> usize {
 }
 
 // Answers a call in this work buffer, and gives the job after it.
-fn answer_in(line: Line, table: &[f32], work: &mut [u16], lent: Job) -> Job {
+fn answer_in(rt: &impl Print, line: Line, table: &[f32], work: &mut [u16], lent: Job) -> Job {
     let operation = line.operation;
     match operation {
-        START => answer_start(line, table, lent),
-        STEP => answer_step(line, table, work, lent),
-        STEPS => answer_steps(line, table, work, lent),
-        _ => answer_search(line, table, work, lent),
+        START => answer_start(rt, line, table, lent),
+        STEP => answer_step(rt, line, table, work, lent),
+        STEPS => answer_steps(rt, line, table, work, lent),
+        _ => answer_search(rt, line, table, work, lent),
     }
 }
 
 // Answers a call over a table, in a work buffer of the length that the words say, and gives the job after it.
-pub fn answer(line: Line, table: &[f32], lent: Job) -> Job {
+pub fn answer(rt: &impl Print, line: Line, table: &[f32], lent: Job) -> Job {
     let words = line.words;
     let mut work = [0u16; 2400];
     let room = room_of(line.operation, words);
     if room <= 2400 {
         let part = &mut work[0..room];
-        return answer_in(line, table, part, lent);
+        return answer_in(rt, line, table, part, lent);
     }
-    answers::malformed();
+    answers::malformed(rt);
     lent
 }
