@@ -1,6 +1,5 @@
 // The search, step by step, with lines of progress.
 use crate::{numbers, show, words};
-use ceiling::Outlook;
 use search::{Answer, Best, Job, Outcome, Settings};
 
 // How many pairs of levels there are.
@@ -32,28 +31,15 @@ fn position(job: Job) {
     words::say(b" of ");
     numbers::whole(PAIRS as u64);
     match best {
-        Best::None => words::say(b": none so far"),
-        Best::Found(chroma, _, _) => show::float_words(b": ", chroma),
+        Best::None => words::say(b": none so far\n"),
+        Best::Found(chroma, _, _) => show::float_line(b": ", chroma),
     }
 }
 
-// Writes the ceiling of the pairs still to come, or that none is left, and ends the line.
-fn outlook(said: Outlook) {
-    match said {
-        Outlook::Ahead(_, most) => show::float_line(b"; ceiling of the pairs to come ", most),
-        Outlook::Through(_) => words::say(b"; no qualifying pair is left\n"),
-        Outlook::Refused(why) => {
-            words::say(b"; ");
-            show::refused(why.number());
-        }
-    }
-}
-
-// Both, where it is time for a line.
-fn progress(table: &[f32], job: Job) {
+// The same, where it is time for a line.
+fn progress(job: Job) {
     if job.position % BETWEEN == 0 || job.position == PAIRS {
         position(job);
-        outlook(ceiling::look_ahead(job, table));
     }
 }
 
@@ -83,7 +69,7 @@ fn take_steps(table: &[f32], begun: Job) -> Searched {
             return stepped;
         }
         job = stepped.job;
-        progress(table, job);
+        progress(job);
         turns -= 1;
     }
     Searched { number: 0, job }

@@ -13,15 +13,10 @@ pub fn end() {
     words::say(b"\n");
 }
 
-// Writes words and a float.
-pub fn float_words(bytes: &[u8], x: f32) {
-    words::say(bytes);
-    numbers::float(x, ALL);
-}
-
 // Writes a line of words and a float.
 pub fn float_line(bytes: &[u8], x: f32) {
-    float_words(bytes, x);
+    words::say(bytes);
+    numbers::float(x, ALL);
     end();
 }
 

@@ -17,8 +17,7 @@ returns-then-unit-eq1000 c = ends c.in-Decimals.is (point_last _ _ _ c.if-unit-e
 
 pub gap_of-requires-in-Decimals : goal.gap_of-requires-in-Decimals
 gap_of-requires-in-Decimals c =
-    let p = c.before.before in
-    let h : p.in-Decimals.n + 10 * p.in-Decimals.unit ≤ 10000000 = held p.in-Decimals.is p.requires in omega arith
+    let h : c.in-Decimals.n + 10 * c.in-Decimals.unit ≤ 10000000 = held c.in-Decimals.is c.requires in omega arith
 
 pub returns-in-Start : goal.returns-in-Start
 returns-in-Start c = ends c.in-Start.is no_start

@@ -5,4 +5,4 @@ pub returns : goal.returns
 returns c =
     let p = c.before.before in
     let l = p.before.before.before in
-    rw l.Line-of.ensures at p.put_bytes.ensures
+    rw l.line_of-line.ensures at p.put_bytes.ensures

@@ -6,6 +6,4 @@ pub returns-then-ends_empty : goal.returns-then-ends_empty
 returns-then-ends_empty c = end_none _ _ c.ends_empty.ensures c.if-ends_empty.true
 
 pub returns : goal.returns
-returns c =
-    let p = c.before.before in
-    end_some _ _ p.ends_empty.ensures p.if-ends_empty.false c.answer_kept.ensures
+returns c = end_some _ _ c.ends_empty.ensures c.if-ends_empty.false c.answer_kept.ensures

@@ -21,26 +21,20 @@ loop-at-smaller c = let h = c.loop-at-test.true in omega arith
 
 pub loop-at-preserved : goal.loop-at-preserved
 loop-at-preserved c =
-    let p1 = c.before.before in
-    let p2 = p1.before in
-    let p3 = p2.before in
-    let p4 = p3.before.before in
-    let t = p1.if-end-le65472.true in
-    let g : p3.loop-at.end ≤ 65472 = omega (arith, leb-true) in
-    let h = p2.loop-at-test.true in
+    let t = c.if-end-le65472.true in
+    let g : c.loop-at.end ≤ 65472 = omega (arith, leb-true) in
+    let h = c.loop-at-test.true in
     ⊎_elim
-    (λ w. rw (w.5, w.6, w.7, w.8) (newline_taken p3.loop-at.invariant _ h refl g w.2.given.0 w.3.given.0.1 w.0.taken w.4.ensures))
-    (λ w. rw (w.3, w.4, w.5, w.6) (other_taken p3.loop-at.invariant _ h refl g w.0.left w.2.ensures))
+    (λ w. rw (w.5, w.6, w.7, w.8) (newline_taken c.loop-at.invariant _ h refl g w.2.given.0 w.3.given.0.1 w.0.taken w.4.ensures))
+    (λ w. rw (w.3, w.4, w.5, w.6) (other_taken c.loop-at.invariant _ h refl g w.0.left w.2.ensures))
     c.if-byte-eq10.branch
 
 pub returns-else-end-le65472 : goal.returns-else-end-le65472
 returns-else-end-le65472 c =
-    let p = c.before.before in
     let t = c.if-end-le65472.false in
-    let g : 65472 < p.loop-at.end = omega (arith, leb-false) in
-    ends_full p.loop-at.invariant g
+    let g : 65472 < c.loop-at.end = omega (arith, leb-false) in
+    ends_full c.loop-at.invariant g
 
 pub returns-after-loop-at : goal.returns-after-loop-at
 returns-after-loop-at c =
-    let p = c.before in
-    ends_whole p.loop-at.invariant c.loop-at-test.false
+    ends_whole c.loop-at.invariant c.loop-at-test.false

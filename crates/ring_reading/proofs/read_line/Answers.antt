@@ -6,15 +6,10 @@ pub returns-then-line-gt4096 : goal.returns-then-line-gt4096
 returns-then-line-gt4096 c = too_long _ c.if-line-gt4096.true c.nothing.ensures
 
 pub returns-in_default : goal.returns-in_default
-returns-in_default c =
-    let p = c.before.before.before in
-    no_head _ p.if-line-gt4096.false p.head_of.ensures c.in_default.is c.nothing-in_default.ensures
+returns-in_default c = no_head _ c.if-line-gt4096.false c.head_of.ensures c.in_default.is c.nothing-in_default.ensures
 
 pub read_entries-requires : goal.read_entries-requires
 read_entries-requires c = entries_below _ c.head_of.ensures c.in-Four.is
 
 pub returns : goal.returns
-returns c =
-    let n = c.before.before in
-    let p = n.before.before in
-    by_entries _ p.if-line-gt4096.false p.head_of.ensures n.in-Four.is c.read_entries.ensures
+returns c = by_entries _ c.if-line-gt4096.false c.head_of.ensures c.in-Four.is c.read_entries.ensures
