@@ -2,6 +2,7 @@
 // and order of operations follow crates/lcr-core/src/color.rs.
 // Its cases are in `color_cases`.
 #![tactic(auto)]
+
 ghost use Rattle.std.specs.Prelude.{◌≡◌};
 ghost use Rattle.color.specs.Color.{or_operand, root_inside, weigh, linear_to_xyz, xyz_to_linear, lab_f, lab_fInv, xyz_to_lab, lab_to_xyz, linear_to_lab, lab_to_linear, srgb8_to_lab, chroma_of, lch_to_lab, lch_in_gamut};
 

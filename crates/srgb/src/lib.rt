@@ -2,6 +2,7 @@
 // order of operations follow crates/lcr-core/src/color.rs.
 // Its cases are in `color_cases`.
 #![tactic(auto)]
+
 ghost use Rattle.std.specs.Prelude.{◌≡◌};
 ghost use Rattle.srgb.specs.Channels.{clamp_to, gamut_channel, clamped_of, in_gamut, srgb8_to_linear, linear_to_srgb8};
 ghost use Rattle.srgb.specs.Parts.{from_hex, to_hex};

@@ -5,15 +5,6 @@ use Rattle.color.specs.Color.{lightness, lab_to_xyz}
 use borrow.Author.Rules.{rules}
 use Rattle.color.proofs.lab_to_xyz.Goals as goal
 
--- LEFT array-read-t9 : tie.Need-array-read-t9
--- array-read-t9 c = search rules
-
--- LEFT array-read-t15 : tie.Need-array-read-t15
--- array-read-t15 c = search rules
-
--- LEFT array-read-t21 : tie.Need-array-read-t21
--- array-read-t21 c = search rules
-
 pub returns : goal.returns
 unfolding lab_to_xyz lightness white of_bits of_int round
 returns c = rw (c.lab_f_inv.ensures, c.lab_f_inv-2.ensures, c.lab_f_inv-3.ensures)
