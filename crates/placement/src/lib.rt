@@ -1,6 +1,7 @@
 // k hues on a ring, at a chroma: `feasible` and `place_from` of xtask/src/palette.rs.
 // Its cases are in `placement_cases`.
 #![tactic(auto)]
+
 ghost use Rattle.std.specs.Prelude.{◌≡◌, ℕ, ◌+◌, ◌%◌, ◌≤◌, ◌<◌, min, length, take};
 ghost use Rattle.limits.specs.Answers.{value, Untouched};
 ghost use Rattle.placement_rules.specs.Ring.{nowhere, placed, earliest};

@@ -18,12 +18,10 @@ pub returns-in-Wrong : goal.returns-in-Wrong
 returns-in-Wrong c =
     let a = c.args in
     let e = refusing a.k a.step a.c a.m.now (length a.work.now) c.check-checked.result c.in-Wrong.why c.in-Wrong.is c.check-checked.ensures in
-    (subst (Gives (length a.m.now) a.k _) (sym e) (record { says = refl; beside = refl; tightest_is = refl }), λ w again. refl)
--- ASKED ['gives', 'untouched']
+    record { gives = subst (Gives (length a.m.now) a.k _) (sym e) (record { says = refl; beside = refl; tightest_is = refl }); untouched = λ w again. refl }
 
 pub returns-in-Fine : goal.returns-in-Fine
 returns-in-Fine c =
     let a = c.args in
     let e = placing a.k a.step a.c a.m.now (length a.work.now) c.check-checked.result c.in-Fine.is c.check-checked.ensures in
-    (subst (Gives (length a.m.now) a.k c.place.result) (sym e) c.place.ensures, λ w again. said_twice e again)
--- ASKED ['gives', 'untouched']
+    record { gives = subst (Gives (length a.m.now) a.k c.place.result) (sym e) c.place.ensures; untouched = λ w again. said_twice e again }

@@ -1,6 +1,5 @@
 -- `placement::fill` meets its contract. The invariant: the table is filled from index i on, and what was last seen is the earliest allowed index from there. Assumes nothing.
 use mathlib.Core.Path.{◌≡◌, refl, ◌∙◌}
-use mathlib.Core.Logic.{⊎_elim}
 use Prim.Native.Nat.{suc, ◌-◌, ◌<◌}
 use native.Mathlib.Omega.{arith}
 use lib.ListN.{length, length-set}
@@ -9,6 +8,7 @@ use Rattle.placement_rules.specs.Placing.{allowed_at}
 use Rattle.placement.specs.Inner.{Filled}
 use Rattle.placement.proofs.Table.{allowed_there, top, here, skip, none_yet, more}
 use Rattle.placement.proofs.fill.Goals as goal
+use Rattle.placement.proofs.fill.Goals.{then-c-m, else-c-m}
 
 pub overflow_cast-seen : goal.overflow_cast-seen
 overflow_cast-seen c = let n = c.requires.short in omega arith
@@ -60,10 +60,10 @@ loop-i-preserved c =
     let w : l.loop-i.seen ≡ earliest (allowed_at row s.args.c) (length row) (suc (i - 1)) = rw e at l.loop-i.invariant.3 in
     let a = allowed_there row s.args.c (i - 1) u in
     let is : c.if-c-m.seen ≡ earliest (allowed_at row s.args.c) (length row) (i - 1) =
-    ⊎_elim
-    (λ x. x.1 ∙ here row s.args.c s.args.first s.args.work.now s.requires (i - 1) (a ∙ x.0.taken))
-    (λ x. x.1 ∙ skip row s.args.c s.args.first s.args.work.now s.requires (i - 1) l.loop-i.seen u (a ∙ x.0.left) w)
-    c.if-c-m.branch in
+    elim c.if-c-m.branch [
+      | then-c-m x ↦ x.seen-is ∙ here row s.args.c s.args.first s.args.work.now s.requires (i - 1) (a ∙ x.if-c-m.true)
+      | else-c-m x ↦ x.seen-is ∙ skip row s.args.c s.args.first s.args.work.now s.requires (i - 1) l.loop-i.seen u (a ∙ x.if-c-m.false) w
+    ] in
     (omega arith, length-set l.loop-i.work (i - 1) c.if-c-m.seen ∙ l.loop-i.invariant.1, more row s.args.c (i - 1) c.if-c-m.seen l.loop-i.work u f is, is)
 
 pub shape_of-work : goal.shape_of-work

@@ -8,7 +8,7 @@ use Rattle.placement.proofs.Gaps.{from, begins, goes_on, at_first}
 use Rattle.placement.proofs.tightest.Goals as goal
 
 -- the hues are sixteen
-all_there : (c : goal.Start) → c.args.k ≤ length c.args.t3
+all_there : (c : goal.Start) → c.args.k ≤ length c.args.hues
 all_there c = let k = c.requires.few_hues in omega arith
 
 pub overflow_sub-at : goal.overflow_sub-at
@@ -28,7 +28,7 @@ loop-at-init c =
     let s = c.before in
     let a = s.args in
     let h = s.requires.some_hue in
-    (omega arith, begins a.n a.k a.t3 (all_there s) (a.k - 1) (omega arith) _ c.around-least.ensures)
+    (omega arith, begins a.n a.k a.hues (all_there s) (a.k - 1) (omega arith) _ c.around-least.ensures)
 
 pub overflow_sub-at-in-loop-at : goal.overflow_sub-at-in-loop-at
 overflow_sub-at-in-loop-at c = let h = c.loop-at-test.true in omega arith
@@ -64,10 +64,10 @@ loop-at-preserved c =
     let inside = l.loop-at.invariant.0 in
     let e : at - 1 + 1 ≡ at = omega arith in
     let f : suc (at - 1) ≡ at = omega arith in
-    let gap : ℕ → ℕ = λ (j : ℕ). around a.n (get_or a.t3 (at - 1) 0) (get_or a.t3 j 0) in
+    let gap : ℕ → ℕ = λ (j : ℕ). around a.n (get_or a.hues (at - 1) 0) (get_or a.hues j 0) in
     let far : c.around.result ≡ gap (suc (at - 1)) = c.around.ensures ∙ ap gap (e ∙ sym f) in
-    let so_far : l.loop-at.least ≡ from a.n a.k a.t3 (suc (at - 1)) = l.loop-at.invariant.1 ∙ ap (from a.n a.k a.t3) (sym f) in
-    (omega arith, goes_on a.n a.k a.t3 (all_there s) (at - 1) (omega arith) _ _ _ c.smaller-least.ensures far so_far)
+    let so_far : l.loop-at.least ≡ from a.n a.k a.hues (suc (at - 1)) = l.loop-at.invariant.1 ∙ ap (from a.n a.k a.hues) (sym f) in
+    (omega arith, goes_on a.n a.k a.hues (all_there s) (at - 1) (omega arith) _ _ _ c.smaller-least.ensures far so_far)
 
 pub returns : goal.returns
 returns c =
@@ -76,4 +76,4 @@ returns c =
     let a = s.args in
     let h = c.loop-at-test.false in
     let e : l.loop-at.at ≡ 0 = omega arith in
-    l.loop-at.invariant.1 ∙ ap (from a.n a.k a.t3) e ∙ at_first a.n a.k a.t3 (all_there s) s.requires.some_hue
+    l.loop-at.invariant.1 ∙ ap (from a.n a.k a.hues) e ∙ at_first a.n a.k a.hues (all_there s) s.requires.some_hue
