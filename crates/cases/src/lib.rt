@@ -4,6 +4,7 @@
 // line is a case: an operation of at most 8 lowercase letters and digits, then at most 40 words of at most
 // 8 lowercase hexadecimal digits, with one space before each and a newline at the end.
 #![tactic(auto)]
+
 ghost use Rattle.std.specs.Prelude.{◌≡◌};
 ghost use Rattle.cases.specs.Found.{found_of, left_of};
 

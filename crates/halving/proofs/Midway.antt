@@ -6,9 +6,8 @@ use mathlib.Core.Bool.{true, false, true≢false}
 use Prim.Native.Nat.{ℕ, suc, ◌+◌, ◌-◌, ◌*◌, ◌/◌, ◌%◌, ◌^◌, ◌≤◌, ◌<◌, compare}
 use native.Mathlib.Nat.{le_trans, le_of_eq, le_refl, lt_of_le_of_lt, lt_of_lt_of_le, not-le_of_lt, mul_assoc, mul_comm, mul_right_comm, mul-one, one-mul, add-mul, mul-pos, mul-le-mul_right, mul-le-mul_left, eq_of_mul-eq-mul_right, div-one, zero-add, pow-suc, pow-succ'}
 use native.Mathlib.Omega.{arith}
-use lib.Dec.{T}
 use lib.Pow.{pow-add, pow_pos, pow-lt}
-use lib.Ieee.{Float, nan, inf, fin, binary32, up, down, size, round, sum, add, mul, fits}
+use lib.Ieee.{Float, nan, inf, fin, binary32, up, down, size, round, sum, add, mul}
 use lib.Ieee.Digits.{size-lt, size-le, size_reaches}
 use lib.Ieee.Exact.{HasValue, round_exact}
 use lib.Ieee.Fits.{down_pos, nearest-le, kept-lt}

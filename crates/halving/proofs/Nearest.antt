@@ -1,7 +1,7 @@
 -- The root that `nearest_root` gives is nearest: half way from it to any other f32 lies on the other's side of the exact root, over every degree. Assumes nothing.
 use mathlib.Core.Path.{◌≡◌, refl, sym, ap, ◌∙◌, fun_ext}
 use mathlib.Core.Bool.{Bool, true, false}
-use Prim.Native.Nat.{ℕ, zero, suc, ◌+◌, ◌-◌, ◌*◌, ◌^◌, ◌≤◌, ◌<◌}
+use Prim.Native.Nat.{ℕ, suc, ◌+◌, ◌-◌, ◌*◌, ◌^◌, ◌≤◌, ◌<◌}
 use native.Mathlib.Nat.{le_trans, le_of_eq, lt_of_le_of_lt, not-le_of_lt, not-suc-le-zero, add-le-add, mul_assoc, mul_right_comm, mul-le-mul_right, le_of_mul-le-mul_right, pow-le-pow_left}
 use lib.Dec.{leb}
 use native.Mathlib.Omega.{arith}

@@ -1,14 +1,13 @@
 -- The bit patterns of the f32 that are not negative: what each is worth, that a larger pattern is worth more, and that each such f32 has one. Assumes nothing.
-use mathlib.Core.Path.{◌≡◌, refl, sym, ap, ◌∙◌, subst}
+use mathlib.Core.Path.{◌≡◌, sym, ap, ◌∙◌, subst}
 use mathlib.Core.Logic.{◌⊎◌, inl, inr}
-use mathlib.Core.Bool.{Bool, true, false, cond}
+use mathlib.Core.Bool.{false}
 use Prim.Native.Nat.{ℕ, zero, suc, ◌+◌, ◌-◌, ◌*◌, ◌/◌, ◌%◌, ◌^◌, ◌≤◌, ◌<◌}
-use native.Mathlib.Nat.{le_trans, le_of_lt, le_refl, lt_of_lt_of_le, mul-one, mul_assoc, mul_comm, mul-lt-mul_of_pos_right, pow-succ'}
+use native.Mathlib.Nat.{le_trans, le_of_lt, le_refl, mul-one, mul_assoc, mul-lt-mul_of_pos_right, pow-succ'}
 use native.Mathlib.Omega.{arith}
-use lib.Dec.{T, leb, eqb}
+use lib.Dec.{leb}
 use lib.Pow.{pow_pos}
-use lib.Ieee.{Float, nan, inf, fin, binary32, odd, of_fields, of_bits, to_bits, fits, is_nan}
-use lib.Ieee.Bits.{of_bits-to_bits, to_bits-lt}
+use lib.Ieee.{binary32, odd, of_fields, of_bits}
 use lib.Ieee.Exact.{HasValue, odd_sign}
 use borrow.Author.Tests.{lt-leb, ne_eqb}
 use Rattle.halving.specs.Patterns.{worth_of, worth}

@@ -7,7 +7,6 @@ use mathlib.Core.Bool.{Bool, true, false}
 use Prim.Native.Nat.{ℕ, zero, suc, ◌+◌, ◌-◌, ◌*◌, ◌^◌, ◌≤◌, ◌<◌}
 use native.Mathlib.Nat.{le_trans, le_of_eq, le_refl, lt_of_le_of_lt, lt_of_lt_of_le, mul_assoc, mul-one, one-mul, suc-mul, pow-suc, pow-succ'}
 use native.Mathlib.Omega.{arith}
-use lib.Dec.{T}
 use lib.Pow.{add-lt-pow}
 use lib.Ieee.{Float, nan, inf, fin, binary32, of_bits, to_bits, mul, add, round}
 use lib.Ieee.Bits.{of_bits-to_bits}

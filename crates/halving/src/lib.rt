@@ -1,6 +1,7 @@
 // The midpoint that every halving takes.
 // Its cases are those of `color_cases` (`clip`), `gamut_cases` and `pair_cases`.
 #![tactic(auto)]
+
 ghost use Rattle.std.specs.Prelude.{◌≡◌};
 ghost use Rattle.halving.specs.Midpoint.{midpoint};
 

@@ -1,9 +1,8 @@
 -- What the code's own tests of an f32 say: `x != x` finds the NaN, and the top bit of the pattern is the sign bit. Assumes nothing.
-use mathlib.Core.Path.{◌≡◌, refl, sym, ap, ◌∙◌, subst}
+use mathlib.Core.Path.{◌≡◌, refl, sym, ap, ◌∙◌}
 use mathlib.Core.Bool.{Bool, true, false, not, ◌&&◌, ◌||◌, beq, cond, true≢false}
 use Prim.Native.Nat.{ℕ, zero, suc, ◌+◌, ◌-◌, ◌*◌, ◌/◌, ◌%◌, ◌^◌, ◌≤◌, ◌<◌, compare}
 use lib.Dec.{T, leb, ltb, eqb, eqb_refl}
-use lib.IntN.{ℤ}
 use lib.Ieee.{Float, nan, inf, fin, binary32, up, down, size, nearest, units, round, odd, of_fields, of_bits, to_bits, fits, is_nan, ne, level}
 use lib.Ieee.Bits.{is_true, of_bits-to_bits}
 use lib.Ieee.Scale.{finite}

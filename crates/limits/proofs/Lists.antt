@@ -1,7 +1,7 @@
 -- What holds of each element of a list holds of each element of its parts, whether it is said by a property (`Each`) or by a test (`every`), and the two say the same
 -- (`each_true`, `every_true`). Assumes nothing.
 use mathlib.Core.Path.{◌≡◌, refl}
-use mathlib.Core.Bool.{Bool, true, ◌&&◌}
+use mathlib.Core.Bool.{Bool, true}
 use mathlib.Core.List.{List, [], ◌∷◌, ◌++◌}
 use Prim.Native.Nat.{ℕ, zero, suc}
 use lib.Ieee.{Float}

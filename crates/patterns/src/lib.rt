@@ -1,5 +1,6 @@
 // Floats by their bit patterns, as the lists of cases say them: every NaN's pattern stands for the NaN.
 #![tactic(auto)]
+
 ghost use Rattle.std.specs.Prelude.{◌≡◌};
 ghost use Rattle.std.specs.Float.{binary32};
 ghost use Rattle.std.specs.Float.Ieee.{nan_bits, of_bits};

@@ -1,6 +1,6 @@
 -- `limits::sign_clear` meets its contract: past the first test the operand is no NaN, so its pattern is defined, and the pattern's top bit is the sign. Assumes nothing.
 use mathlib.Core.Path.{◌≡◌, sym, subst, ◌∙◌}
-use mathlib.Core.Bool.{true, false, not}
+use mathlib.Core.Bool.{false, not}
 use lib.Dec.{T}
 use lib.Ieee.{Float, is_nan}
 use Rattle.limits.specs.Taken.{sign_bit, sign_clear}

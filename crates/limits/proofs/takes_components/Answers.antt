@@ -1,5 +1,4 @@
 -- `limits::takes_components` meets its contract: the flag so far and the test of what is left are the test of the whole. Assumes nothing.
-use Prim.Native.Nat.{◌-◌}
 use Rattle.limits.specs.Taken.{direction_taken}
 use Rattle.limits.proofs.Every.{begun, joined, ended}
 use Rattle.limits.proofs.takes_components.Goals as goal

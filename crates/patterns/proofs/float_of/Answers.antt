@@ -1,6 +1,6 @@
 -- `patterns::float_of` meets its contract: a NaN's pattern stands for the NaN, which zero by zero is too. Assumes nothing.
 use mathlib.Core.Path.{◌≡◌, refl, sym, ◌∙◌}
-use mathlib.Core.Bool.{true, false}
+use mathlib.Core.Bool.{true}
 use lib.Ieee.{Float, nan, inf, fin, binary32, of_bits, div, is_nan}
 use lib.Ieee.Bits.{nan_bits_is}
 use Rattle.patterns.proofs.float_of.Goals as goal
