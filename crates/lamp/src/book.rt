@@ -7,15 +7,15 @@ use search::Job;
 const LONGEST: usize = 861;
 
 // Writes the page of a job.
-pub fn write(job: Job) {
+pub fn write(rt: &impl Print, job: Job) {
     let mut bytes = [0u8; 861];
     let laid = page::lay_out(job, &mut bytes);
     match laid {
-        Laid::Refused(why) => show::refused(why.number()),
+        Laid::Refused(why) => show::refused(rt, why.number()),
         Laid::Bytes(count) => {
             if count <= LONGEST {
-                words::say(b"for the service book\n");
-                words::say(&bytes[0..count]);
+                words::say(rt, b"for the service book\n");
+                words::say(rt, &bytes[0..count]);
             }
         }
     }

@@ -24,22 +24,22 @@ fn number_of(answer: Answer) -> u8 {
 }
 
 // Writes how far a job is, and its best so far.
-fn position(job: Job) {
+fn position(rt: &impl Print, job: Job) {
     let best = job.best;
-    words::say(b"searched ");
-    numbers::whole(job.position as u64);
-    words::say(b" of ");
-    numbers::whole(PAIRS as u64);
+    words::say(rt, b"searched ");
+    numbers::whole(rt, job.position as u64);
+    words::say(rt, b" of ");
+    numbers::whole(rt, PAIRS as u64);
     match best {
-        Best::None => words::say(b": none so far\n"),
-        Best::Found(chroma, _, _) => show::float_line(b": ", chroma),
+        Best::None => words::say(rt, b": none so far\n"),
+        Best::Found(chroma, _, _) => show::float_line(rt, b": ", chroma),
     }
 }
 
 // The same, where it is time for a line.
-fn progress(job: Job) {
+fn progress(rt: &impl Print, job: Job) {
     if job.position % BETWEEN == 0 || job.position == PAIRS {
-        position(job);
+        position(rt, job);
     }
 }
 
@@ -60,7 +60,7 @@ fn take_step(table: &[f32], job: Job) -> Searched {
 }
 
 // Takes every step of a job.
-fn take_steps(table: &[f32], begun: Job) -> Searched {
+fn take_steps(rt: &impl Print, table: &[f32], begun: Job) -> Searched {
     let mut job = begun;
     let mut turns = PAIRS;
     while turns > 0 {
@@ -69,18 +69,18 @@ fn take_steps(table: &[f32], begun: Job) -> Searched {
             return stepped;
         }
         job = stepped.job;
-        progress(job);
+        progress(rt, job);
         turns -= 1;
     }
     Searched { number: 0, job }
 }
 
 // Searches a table.
-pub fn search_in(table: &[f32], settings: Settings) -> Searched {
+pub fn search_in(rt: &impl Print, table: &[f32], settings: Settings) -> Searched {
     let begun = numbered(search::start(settings, table, search::begin(settings, 0)));
     if begun.number != 0 {
         return begun;
     }
     let job = begun.job;
-    take_steps(table, job)
+    take_steps(rt, table, job)
 }

@@ -3,6 +3,7 @@
 // gap and chroma found with the limit beside the chroma; then, of that one design, what validation says of its sRGB colours at
 // that chroma, and the colours after back-off.
 #![tactic(auto)]
+
 mod book;
 mod colors;
 mod input;
@@ -22,34 +23,34 @@ fn measured(k: usize, colors: [Srgb8; 32], cos: &[f32], sin: &[f32]) -> Validati
 }
 
 // Derives a design's palette at the chroma found, and writes what validation says of it.
-fn derive(design: Design, chroma: f32, cos: &[f32], sin: &[f32]) {
+fn derive(rt: &impl Print, design: Design, chroma: f32, cos: &[f32], sin: &[f32]) {
     let derived = palette::derive(design, chroma, cos, sin);
     let answer = derived.answer;
     let colors = derived.colors;
     match answer {
-        Derivation::Refused(why) => show::refused(why.number()),
-        Derivation::Derived => colors::validation(measured(design.k, colors, cos, sin)),
+        Derivation::Refused(why) => show::refused(rt, why.number()),
+        Derivation::Derived => colors::validation(rt, measured(design.k, colors, cos, sin)),
     }
 }
 
 // Backs off from the chroma found, and writes what comes of it: of the chroma that passed, what is measured and the colours.
-fn back_off(design: Design, chroma: f32, cos: &[f32], sin: &[f32]) {
+fn back_off(rt: &impl Print, design: Design, chroma: f32, cos: &[f32], sin: &[f32]) {
     let back = palette::back_off(design, chroma, cos, sin);
     let answer = back.answer;
     let colors = back.colors;
-    if colors::passes(answer) {
-        colors::least(measured(design.k, colors, cos, sin));
-        colors::lines(design, colors);
+    if colors::passes(rt, answer) {
+        colors::least(rt, measured(design.k, colors, cos, sin));
+        colors::lines(rt, design, colors);
     }
 }
 
 // Writes what a search found, with its colours.
-fn finish(found: Job, cos: &[f32], sin: &[f32]) {
+fn finish(rt: &impl Print, found: Job, cos: &[f32], sin: &[f32]) {
     let settings = found.settings;
     let best = found.best;
     let hues = found.hues;
     match best {
-        Best::None => show::none(settings),
+        Best::None => show::none(rt, settings),
         Best::Found(chroma, dark, light) => {
             let design = Design {
                 k: settings.k,
@@ -57,43 +58,43 @@ fn finish(found: Job, cos: &[f32], sin: &[f32]) {
                 light,
                 hues,
             };
-            show::found(design, found.tightest, chroma);
-            show::limit(settings, chroma);
-            derive(design, chroma, cos, sin);
-            back_off(design, chroma, cos, sin);
+            show::found(rt, design, found.tightest, chroma);
+            show::limit(rt, settings, chroma);
+            derive(rt, design, chroma, cos, sin);
+            back_off(rt, design, chroma, cos, sin);
         }
     }
 }
 
 // Searches a table, and writes what is found.
-fn search_in(table: &[f32], settings: Settings, cos: &[f32], sin: &[f32]) {
-    let searched = job::search_in(table, settings);
+fn search_in(rt: &impl Print, table: &[f32], settings: Settings, cos: &[f32], sin: &[f32]) {
+    let searched = job::search_in(rt, table, settings);
     if searched.number != 0 {
-        show::refused(searched.number);
+        show::refused(rt, searched.number);
         return;
     }
     let last = searched.job;
-    book::write(last);
-    finish(last, cos, sin);
+    book::write(rt, last);
+    finish(rt, last, cos, sin);
 }
 
 // Fills the table by these directions, searches it, and writes what is found.
-fn run(settings: Settings, cos: &[f32], sin: &[f32]) {
+fn run(rt: &impl Print, settings: Settings, cos: &[f32], sin: &[f32]) {
     let mut entries = [0.0f32; 121680];
     let filled = table::fill(&mut entries, cos, sin);
-    if show::filled(filled) {
-        search_in(&entries, settings, cos, sin);
+    if show::filled(rt, filled) {
+        search_in(rt, &entries, settings, cos, sin);
     }
 }
 
 // Reads what is asked, and runs where every line is as it should be and none is missing.
-fn main() {
-    let read = input::read();
-    if read.ready() {
+fn main(rt: HostRuntime) {
+    let read = input::read(&rt);
+    if read.ready(&rt) {
         let settings = read.settings;
         let cos = read.cos;
         let sin = read.sin;
-        show::asked(settings);
-        run(settings, &cos, &sin);
+        show::asked(&rt, settings);
+        run(&rt, settings, &cos, &sin);
     }
 }

@@ -1,8 +1,8 @@
 // Words written to standard output, and the reasons that have a number.
 
-// Writes bytes.
-pub fn say(bytes: &[u8]) {
-    io::write_all(libc::STDOUT_FILENO, bytes);
+// Writes bytes; where that fails, what follows is written all the same.
+pub fn say(rt: &impl Print, bytes: &[u8]) {
+    let _ = rt.write_all(bytes);
 }
 
 // The place behind so many newlines of a text, or its end.
@@ -22,19 +22,20 @@ fn behind(text: &[u8], newlines: usize) -> usize {
 }
 
 // Writes a colon and the line of a text that has this number, from 0, with its newline.
-fn line(text: &[u8], number: u8) {
+fn line(rt: &impl Print, text: &[u8], number: u8) {
     let n = number as usize;
     let from = behind(text, n);
     let to = behind(text, n + 1);
-    say(b": ");
+    say(rt, b": ");
     if from <= to && to <= text.len() {
-        say(&text[from..to]);
+        say(rt, &text[from..to]);
     }
 }
 
 // Writes why a call was refused, by the number of the refusal, and ends the line.
-pub fn refusal(number: u8) {
+pub fn refusal(rt: &impl Print, number: u8) {
     line(
+        rt,
         b"accepted
 the hue count is not from 1 to 16
 the gap is not from 40 to 84
@@ -61,8 +62,9 @@ the buffer is shorter than the text to write
 }
 
 // Writes what validation finds, by the number of the finding, and ends the line.
-pub fn finding(number: u8) {
+pub fn finding(rt: &impl Print, number: u8) {
     line(
+        rt,
         b"none
 the levels' gap is below 40
 the spread is above 12
@@ -74,8 +76,9 @@ the chroma is below 35
 }
 
 // Writes what is wrong with a line of the input, and ends the line.
-pub fn malformed(number: u8) {
+pub fn malformed(rt: &impl Print, number: u8) {
     line(
+        rt,
         b"neither ask k gap nor dir j cos sin
 ask takes k and a gap in decimal, such as 2 40.5
 ask was said before
