@@ -2,11 +2,11 @@
 use mathlib.Core.Path.{◌≡◌, refl}
 use mathlib.Core.Bool.{Bool, true, false, cond}
 use mathlib.Core.List.{List, ◌++◌}
-use Prim.Native.Nat.{ℕ, zero, suc, ◌≤◌}
+use Prim.Native.Nat.{ℕ, zero, suc}
 use native.Mathlib.Omega.{arith}
 use lib.Ieee.{Float, nan, of_int}
 use lib.ListN.{get_or}
-use Rattle.limits.specs.Taken.{up_to, f32_of, entry_taken, every}
+use Rattle.limits.specs.Taken.{f32_of, entry_taken, every}
 use Rattle.limits.proofs.Lists.{each_append, each_true, every_true}
 use Rattle.halving.specs.Midpoint.{halve}
 use Rattle.halving.proofs.Range.{UpTo, halve_up_to, up_to_taken}

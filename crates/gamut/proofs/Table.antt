@@ -1,7 +1,7 @@
 -- The shape of a table that is taken (`levelled`), how many levels a table of whole rows has (`levels_by`), and its rows: how long they are, which of the table's entries theirs
 -- are, that they are taken where the table's are, and that they are f32 where the table's are. Assumes nothing.
 use mathlib.Core.Path.{◌≡◌, ap, ◌∙◌}
-use mathlib.Core.Bool.{Bool, true, ◌&&◌}
+use mathlib.Core.Bool.{true, ◌&&◌}
 use mathlib.Core.List.{List, [], ◌∷◌}
 use Prim.Native.Nat.{ℕ, suc, ◌+◌, ◌-◌, ◌*◌, ◌/◌, ◌≤◌, ◌<◌}
 use native.Mathlib.Nat.{mul-le-mul_right, suc-mul, mul-div_cancel, min-eq_left}

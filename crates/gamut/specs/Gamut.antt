@@ -1,5 +1,5 @@
 -- Document 01, "The job", table constants, and "Colour and the table": levels, `max_chroma`, and filling one row. Definitions only.
-use Rattle.std.specs.Prelude.{ℕ, zero, suc, ◌+◌, Bool, false, ◌&&◌, cond, List, [], ◌∷◌, leb, eqb, Float, length, get_or}
+use Rattle.std.specs.Prelude.{ℕ, zero, suc, false, ◌&&◌, cond, List, [], ◌∷◌, leb, eqb, Float, length, get_or}
 use Rattle.std.specs.Float.{nan, binary32}
 use Rattle.std.specs.Float.Ieee.{round, add, mul}
 use Rattle.limits.specs.Answers.{Said, value, refused}

@@ -2,6 +2,7 @@
 // `Gamut` and `max_chroma` of xtask/src/palette.rs, with lent directions and one row filled at a call.
 // Its cases are in `gamut_cases`.
 #![tactic(auto)]
+
 ghost use Rattle.std.specs.Prelude.{◌≡◌, ◌≤◌, length};
 ghost use Rattle.limits.specs.Answers.{value};
 ghost use Rattle.limits.specs.Refusals.{check_said};

@@ -25,11 +25,8 @@ module _ (table : List Float) where
 pub returns-then-not-takes_table : goal.returns-then-not-takes_table
 returns-then-not-takes_table c = first _ (sym c.takes_table.ensures ∙ c.if-not-takes_table.true)
 
-one : (c : goal.Else-not-takes_table) → table_taken c.args.table.now ≡ true
-one c = sym c.takes_table.ensures ∙ c.if-not-takes_table.false
-
 pub returns-then-not-takes_entries : goal.returns-then-not-takes_entries
-returns-then-not-takes_entries c = second _ (one c.before.before) (sym c.takes_entries.ensures ∙ c.if-not-takes_entries.true)
+returns-then-not-takes_entries c = second _ (sym c.takes_table.ensures ∙ c.if-not-takes_table.false) (sym c.takes_entries.ensures ∙ c.if-not-takes_entries.true)
 
 pub returns : goal.returns
-returns c = fine _ (one c.before.before) (sym c.takes_entries.ensures ∙ c.if-not-takes_entries.false)
+returns c = fine _ (sym c.takes_table.ensures ∙ c.if-not-takes_table.false) (sym c.takes_entries.ensures ∙ c.if-not-takes_entries.false)

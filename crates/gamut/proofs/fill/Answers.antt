@@ -1,13 +1,12 @@
 -- `gamut::fill` meets its contract. The invariant: the entries below j are written, and the row is as long as it was. Assumes nothing.
 use mathlib.Core.Path.{refl, ◌∙◌}
-use Prim.Native.Nat.{ℕ, ◌-◌, ◌<◌}
+use Prim.Native.Nat.{ℕ, ◌<◌}
 use native.Mathlib.Nat.{ne_of_lt}
 use native.Mathlib.Omega.{arith}
 use lib.Ieee.{nan}
 use lib.ListN.{length, length-set}
 use lib.Seq.{get_or-set_same, get_or-set_other}
 use borrow.Author.Count.{below_none, below_more}
-use Rattle.gamut.specs.Gamut.{max_chroma}
 use Rattle.gamut.proofs.Rows.{row_is}
 use Rattle.gamut.proofs.fill.Goals as goal
 

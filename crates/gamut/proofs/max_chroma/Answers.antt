@@ -1,9 +1,8 @@
 -- `gamut::max_chroma` meets its contract. The invariant: what is left of the 40 halvings, from lo to hi, ends where all of them do, and lo and hi are f32 from 0 to 200. A round
 -- whose midpoint is an end and moves nothing leaves the rest unchanged. Assumes nothing.
 use mathlib.Core.Path.{◌≡◌, refl, sym, ap, ◌∙◌}
-use mathlib.Core.Logic.{⊎_elim}
 use mathlib.Core.Bool.{Bool, true, false}
-use Prim.Native.Nat.{◌-◌, ◌≤◌, ◌<◌}
+use Prim.Native.Nat.{ℕ, ◌+◌, ◌-◌, ◌≤◌, ◌<◌}
 use native.Mathlib.Omega.{arith}
 use lib.IntN.{pos}
 use lib.Ieee.{Float, binary32, to_bits, of_bits, of_int, is_nan, lt}
@@ -16,6 +15,7 @@ use Rattle.halving.proofs.Range.{taken_up_to}
 use Rattle.color.specs.Color.{lch_in_gamut}
 use Rattle.gamut.specs.Gamut.{max_chroma}
 use Rattle.gamut.proofs.max_chroma.Goals as goal
+use Rattle.gamut.proofs.max_chroma.Goals.{then-lch_in_gamut-2+else-mid-lo, else-lch_in_gamut-2+else-mid-hi}
 
 -- both ends at the start
 lowest : Met (f32_of 0)
@@ -35,63 +35,61 @@ unfolding of_bits of_int
 loop-i-init c = (omega arith, ((lowest, highest), refl))
 
 -- the loop's end is the function's
-ended : (l : goal.At-loop-i)
-    → l.loop-i.lo ≡ halve (lch_in_gamut l.args.l l.args.cos l.args.sin) 40 (f32_of 0) (f32_of 200)
-    → l.loop-i.lo ≡ max_chroma l.args.l l.args.cos l.args.sin
-unfolding max_chroma of_bits of_int
-ended l e = e ∙ rw (sym l.lch_in_gamut.ensures ∙ l.if-lch_in_gamut.false)
+ended : (l cos sin lo : Float) → lch_in_gamut l cos sin (f32_of 200) ≡ false → lo ≡ halve (lch_in_gamut l cos sin) 40 (f32_of 0) (f32_of 200) → lo ≡ max_chroma l cos sin
+unfolding max_chroma
+ended l cos sin lo f e = e ∙ rw f
 
--- what is known of the midpoint
-module _ (g : goal.After-lch_in_gamut-in-loop-i) where
-  abbrev m : goal.After-midpoint-mid
-  m = g.before
-
-  abbrev l : goal.At-loop-i
-  l = m.before.before
-
-  abbrev ok : Float → Bool
-  ok = lch_in_gamut l.before.before.before.args.l l.before.before.before.args.cos l.before.before.before.args.sin
-
-  abbrev mid : Float
-  mid = midpoint l.loop.lo l.loop.hi
-
-  mid_met : Met m.midpoint.result
-  mid_met = rw m.midpoint.ensures (midpoint_met l.loop.inv.1.0.0 l.loop.inv.1.0.1)
-
-  yes : g.lch_in_gamut-in-loop-i.result ≡ true → ok mid ≡ true
-  yes t = rw m.midpoint.ensures at (sym g.lch_in_gamut-in-loop-i.ensures ∙ t)
-
-  no : g.lch_in_gamut-in-loop-i.result ≡ false → ok mid ≡ false
-  no t = rw m.midpoint.ensures at (sym g.lch_in_gamut-in-loop-i.ensures ∙ t)
+-- one round, from lo to hi after i of the 40 halvings: what is known of the midpoint
+module _ (ok : Float → Bool) (i : ℕ) (lo hi end : Float) (low : Met lo) (high : Met hi) (rest : halve ok (40 - i) lo hi ≡ end) (mid : Float) (is : mid ≡ midpoint lo hi) where
+  mid_met : Met mid
+  mid_met = rw is (midpoint_met low high)
 
   -- the rest of the rounds change nothing where the midpoint is lo and in gamut, or hi and not
-  at_low : g.lch_in_gamut-in-loop-i.result ≡ true → to_bits binary32 m.midpoint.result ≡ to_bits binary32 l.loop.lo → l.loop.lo ≡ max_chroma l.before.before.before.args.l l.before.before.before.args.cos l.before.before.before.args.sin
+  at_low : ok mid ≡ true → to_bits binary32 mid ≡ to_bits binary32 lo → lo ≡ end
   at_low t b =
-      let same : mid ≡ l.loop.lo = sym m.midpoint.ensures ∙ same_pattern mid_met l.loop.inv.1.0.0 b in
-      ended l (sym (stays_low ok (40 - l.loop.i) l.loop.lo l.loop.hi same (ap ok (sym same) ∙ yes t)) ∙ l.loop.inv.1.1)
+      let same : mid ≡ lo = same_pattern mid_met low b in
+      sym (stays_low ok (40 - i) lo hi (sym is ∙ same) (ap ok (sym same) ∙ t)) ∙ rest
 
-  at_high : g.lch_in_gamut-in-loop-i.result ≡ false → to_bits binary32 m.midpoint.result ≡ to_bits binary32 l.loop.hi → l.loop.lo ≡ max_chroma l.before.before.before.args.l l.before.before.before.args.cos l.before.before.before.args.sin
-  at_high t b =
-      let same : mid ≡ l.loop.hi = sym m.midpoint.ensures ∙ same_pattern mid_met l.loop.inv.1.0.1 b in
-      ended l (sym (stays_high ok (40 - l.loop.i) l.loop.lo l.loop.hi same (ap ok (sym same) ∙ no t)) ∙ l.loop.inv.1.1)
+  at_high : ok mid ≡ false → to_bits binary32 mid ≡ to_bits binary32 hi → lo ≡ end
+  at_high f b =
+      let same : mid ≡ hi = same_pattern mid_met high b in
+      sym (stays_high ok (40 - i) lo hi (sym is ∙ same) (ap ok (sym same) ∙ f)) ∙ rest
+
+  up : i < 40 → ok mid ≡ true → (Met mid × Met hi) × (halve ok (40 - (i + 1)) mid hi ≡ end)
+  up h t = ((mid_met, high), rw is (turn_up ok 40 i lo hi end rest h (ap ok (sym is) ∙ t)))
+
+  down : i < 40 → ok mid ≡ false → (Met lo × Met mid) × (halve ok (40 - (i + 1)) lo mid ≡ end)
+  down h f = ((low, mid_met), rw is (turn_down ok 40 i lo hi end rest h (ap ok (sym is) ∙ f)))
 
 pub float_to_bits-mid : goal.float_to_bits-mid
-float_to_bits-mid c = rw (no_nan (mid_met c.before)) tt
+float_to_bits-mid c =
+    let v = c.loop-i.invariant in
+    rw (no_nan (mid_met _ _ _ _ _ v.1.0.0 v.1.0.1 v.1.1 _ c.midpoint-mid.ensures)) tt
 
 pub float_to_bits-lo : goal.float_to_bits-lo
-float_to_bits-lo c = rw (no_nan (l c.before).loop.inv.1.0.0) tt
+float_to_bits-lo c = rw (no_nan c.loop-i.invariant.1.0.0) tt
 
 pub returns-then-mid-lo : goal.returns-then-mid-lo
-returns-then-mid-lo c = at_low c.before.before c.if-lch_in_gamut-2.true c.if-mid-lo.true
+unfolding of_bits of_int
+returns-then-mid-lo c =
+    let v = c.loop-i.invariant in
+    ended _ _ _ _ (sym c.lch_in_gamut.ensures ∙ c.if-lch_in_gamut.false)
+    (at_low _ _ _ _ _ v.1.0.0 v.1.0.1 v.1.1 _ c.midpoint-mid.ensures (sym c.lch_in_gamut-in-loop-i.ensures ∙ c.if-lch_in_gamut-2.true) c.if-mid-lo.true)
 
 pub float_to_bits-mid-else-lch_in_gamut-2 : goal.float_to_bits-mid-else-lch_in_gamut-2
-float_to_bits-mid-else-lch_in_gamut-2 c = rw (no_nan (mid_met c.before)) tt
+float_to_bits-mid-else-lch_in_gamut-2 c =
+    let v = c.loop-i.invariant in
+    rw (no_nan (mid_met _ _ _ _ _ v.1.0.0 v.1.0.1 v.1.1 _ c.midpoint-mid.ensures)) tt
 
 pub float_to_bits-hi : goal.float_to_bits-hi
-float_to_bits-hi c = rw (no_nan (l c.before).loop.inv.1.0.1) tt
+float_to_bits-hi c = rw (no_nan c.loop-i.invariant.1.0.1) tt
 
 pub returns-then-mid-hi : goal.returns-then-mid-hi
-returns-then-mid-hi c = at_high c.before.before c.if-lch_in_gamut-2.false c.if-mid-hi.true
+unfolding of_bits of_int
+returns-then-mid-hi c =
+    let v = c.loop-i.invariant in
+    ended _ _ _ _ (sym c.lch_in_gamut.ensures ∙ c.if-lch_in_gamut.false)
+    (at_high _ _ _ _ _ v.1.0.0 v.1.0.1 v.1.1 _ c.midpoint-mid.ensures (sym c.lch_in_gamut-in-loop-i.ensures ∙ c.if-lch_in_gamut-2.false) c.if-mid-hi.true)
 
 pub overflow_add-i : goal.overflow_add-i
 overflow_add-i c = let h = c.loop-i-test.true in omega arith
@@ -101,21 +99,17 @@ loop-i-smaller c = let h = c.loop-i-test.true in omega arith
 
 pub loop-i-preserved : goal.loop-i-preserved
 loop-i-preserved c =
-    let g = c.before in
-    let k = (m g).before.loop-test.true in
-    let h : (l g).loop.i < 40 = omega arith in
-    let met = (l g).loop.invariant.1.0 in
-    let i = (l g).loop.i in (
+    let v = c.loop-i.invariant in
+    let h = c.loop-i-test.true in (
       omega arith,
-      ⊎_elim
-          (λ u. rw (u.2, u.3) ((mid_met g, met.1), rw (m g).midpoint.ensures (turn_up (ok g) 40 i (l g).loop.lo (l g).loop.hi _ (l g).loop.invariant.1.1 h (yes g u.0.taken))))
-          (λ u. rw (u.2, u.3) ((met.0, mid_met g), rw (m g).midpoint.ensures (turn_down (ok g) 40 i (l g).loop.lo (l g).loop.hi _ (l g).loop.invariant.1.1 h (no g u.0.left))))
-          c.if-lch_in_gamut-2.branch,
+      elim c.if-lch_in_gamut-2.branch [
+        | then-lch_in_gamut-2+else-mid-lo w ↦ rw (w.lo-is, w.hi-is) (up _ _ _ _ _ v.1.0.0 v.1.0.1 v.1.1 _ c.midpoint-mid.ensures h (sym c.lch_in_gamut-in-loop-i.ensures ∙ w.if-lch_in_gamut-2.true))
+        | else-lch_in_gamut-2+else-mid-hi w ↦ rw (w.lo-is, w.hi-is) (down _ _ _ _ _ v.1.0.0 v.1.0.1 v.1.1 _ c.midpoint-mid.ensures h (sym c.lch_in_gamut-in-loop-i.ensures ∙ w.if-lch_in_gamut-2.false))
+      ],
     )
 
 pub returns : goal.returns
+unfolding of_bits of_int
 returns c =
-    let l = c.before in
-    let s = l.before.before.before in
-    let last : 40 ≤ l.loop-i.i = let k = c.loop-i-test.false in omega arith in
-    ended l (turned (lch_in_gamut s.args.l s.args.cos s.args.sin) 40 l.loop-i.i l.loop-i.lo l.loop-i.hi _ l.loop-i.invariant.1.1 last)
+    let last : 40 ≤ c.loop-i.i = let k = c.loop-i-test.false in omega arith in
+    ended _ _ _ _ (sym c.lch_in_gamut.ensures ∙ c.if-lch_in_gamut.false) (turned (lch_in_gamut c.args.l c.args.cos c.args.sin) 40 c.loop-i.i c.loop-i.lo c.loop-i.hi _ c.loop-i.invariant.1.1 last)

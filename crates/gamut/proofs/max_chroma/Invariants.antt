@@ -8,7 +8,7 @@ use Rattle.color.specs.Color.{lch_in_gamut}
 use Rattle.gamut.proofs.max_chroma.Given as goal
 
 abbrev pub invariant-loop-i : goal.invariant-loop-i
-invariant-loop-i l = 
+invariant-loop-i l =
     (l.i ≤ 40) × ((Met l.lo × Met l.hi) × (halve (lch_in_gamut l.l l.cos l.sin) (40 - l.i) l.lo l.hi ≡ halve (lch_in_gamut l.l l.cos l.sin) 40 (f32_of 0) (f32_of 200)))
 
 abbrev pub decreases-loop-i : goal.decreases-loop-i

@@ -1,26 +1,18 @@
 -- `gamut::takes_table` meets its contract: its three tests are those of the specification. Assumes nothing.
-use mathlib.Core.Path.{◌≡◌, sym, ◌∙◌}
-use mathlib.Core.Bool.{◌&&◌, and_assoc}
-use mathlib.Core.Logic.{⊎_elim}
-use Prim.Native.Nat.{◌*◌, ◌/◌}
-use lib.Dec.{leb, eqb}
-use lib.ListN.{length}
-use borrow.Author.Tests.{eq-eqb, ne_eqb}
-use Rattle.limits.proofs.Tests.{passed_on, stopped}
+use mathlib.Core.Logic.{inl, inr}
+use borrow.Author.Tests.{eq-eqb, ne_eqb, le-leb, lt-leb}
 use Rattle.gamut.specs.Table.{levels_in, table_taken}
 use Rattle.gamut.proofs.takes_table.Goals as goal
-
--- the first two tests
-
+use Rattle.gamut.proofs.takes_table.Goals.{then-n-levels, else-n-levels}
 
 pub returns-then-levels-ge1 : goal.returns-then-levels-ge1
 unfolding table_taken levels_in
-returns-then-levels-ge1 c =
-    let n = length c.args.table.now in
-    passed_on (eqb n (n / 720 * 720) && leb 1 (n / 720)) (leb (n / 720) 169) c.if-n-levels.if2 (let it : c.before.if-n-levels.if2 ≡ (eqb (length c.before.args.table.now) (length c.before.args.table.now / 720 * 720) && leb 1 (length c.before.args.table.now / 720)) = let n = length c.before.args.table.now in ⊎_elim (λ t. t.1 ∙ sym (rw (eq-eqb n (n / 720 * 720) t.0.taken))) (λ t. t.1 ∙ sym (rw (ne_eqb n (n / 720 * 720) t.0.left))) c.before.if-n-levels.branch in it) c.if-levels-ge1.true ∙ and_assoc (eqb n (n / 720 * 720)) (leb 1 (n / 720)) (leb (n / 720) 169)
+returns-then-levels-ge1 c = rw (eq-eqb _ _ c.if-levels-ge1.true.0, le-leb _ _ c.if-levels-ge1.true.1)
 
 pub returns-else-levels-ge1 : goal.returns-else-levels-ge1
 unfolding table_taken levels_in
 returns-else-levels-ge1 c =
-    let n = length c.args.table.now in
-    stopped (eqb n (n / 720 * 720) && leb 1 (n / 720)) (leb (n / 720) 169) c.if-n-levels.if2 (let it : c.before.if-n-levels.if2 ≡ (eqb (length c.before.args.table.now) (length c.before.args.table.now / 720 * 720) && leb 1 (length c.before.args.table.now / 720)) = let n = length c.before.args.table.now in ⊎_elim (λ t. t.1 ∙ sym (rw (eq-eqb n (n / 720 * 720) t.0.taken))) (λ t. t.1 ∙ sym (rw (ne_eqb n (n / 720 * 720) t.0.left))) c.before.if-n-levels.branch in it) c.if-levels-ge1.false ∙ and_assoc (eqb n (n / 720 * 720)) (leb 1 (n / 720)) (leb (n / 720) 169)
+    elim c.if-n-levels.branch [
+      | then-n-levels w ↦ elim c.if-levels-ge1.either [ inl t ↦ rw (w.t-5-is, eq-eqb _ _ t.0, lt-leb _ _ t.1) | inr f ↦ absurd (f w.if-n-levels.true) ]
+      | else-n-levels w ↦ rw (w.t-5-is, ne_eqb _ _ w.if-n-levels.false)
+    ]
