@@ -9,22 +9,17 @@ use Rattle.pair.proofs.best_for_levels.Goals as goal
 
 pub best-requires : goal.best-requires
 best-requires c =
-    let k = c.before.before.before in
-    let a = k.args in
-    passed a.k a.step a.floor (a.a.now ∷ a.b.now ∷ []) (length a.work.now) k.check-checked.result c.in-Fine.is k.check-checked.ensures
+    let a = c.args in
+    passed a.k a.step a.floor (a.a.now ∷ a.b.now ∷ []) (length a.work.now) c.check-checked.result c.in-Fine.is c.check-checked.ensures
 
 pub returns-in-Wrong : goal.returns-in-Wrong
 returns-in-Wrong c =
-    let k = c.before.before.before in
-    let a = k.args in
-    let e = refusing a.k a.step a.floor (a.a.now ∷ a.b.now ∷ []) (length a.work.now) k.check-checked.result c.in-Wrong.why c.in-Wrong.is k.check-checked.ensures in
-    (subst (Gives (length a.a.now) a.k _) (sym e) (record { says = refl; beside = refl; tightest_is = refl }), λ w again. refl)
--- ASKED ['gives', 'untouched']
+    let a = c.args in
+    let e = refusing a.k a.step a.floor (a.a.now ∷ a.b.now ∷ []) (length a.work.now) c.check-checked.result c.in-Wrong.why c.in-Wrong.is c.check-checked.ensures in
+    record { gives = subst (Gives (length a.a.now) a.k _) (sym e) (record { says = refl; beside = refl; tightest_is = refl }); untouched = λ w again. refl }
 
 pub returns-in-Fine : goal.returns-in-Fine
 returns-in-Fine c =
-    let k = c.before.before.before.before.before.before in
-    let a = k.args in
-    let e = passing a.k a.step a.floor (a.a.now ∷ a.b.now ∷ []) (length a.work.now) k.check-checked.result c.in-Fine.is k.check-checked.ensures in
-    (subst (Gives (length a.a.now) a.k c.best.result) (sym e) c.best.ensures, λ w again. said_twice e again)
--- ASKED ['gives', 'untouched']
+    let a = c.args in
+    let e = passing a.k a.step a.floor (a.a.now ∷ a.b.now ∷ []) (length a.work.now) c.check-checked.result c.in-Fine.is c.check-checked.ensures in
+    record { gives = subst (Gives (length a.a.now) a.k c.best.result) (sym e) c.best.ensures; untouched = λ w again. said_twice e again }

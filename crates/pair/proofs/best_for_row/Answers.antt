@@ -9,24 +9,16 @@ use Rattle.pair.proofs.best_for_row.Goals as goal
 
 pub from_floor-requires : goal.from_floor-requires
 from_floor-requires c =
-    let o = c.before.before in
-    let k = o.before.before in
-    record { fine = sym k.check-checked.ensures ∙ ap check_said o.in-Fine.is; top = c.largest.ensures }
+    record { fine = sym c.check-checked.ensures ∙ ap check_said c.in-Fine.is; top = c.largest.ensures }
 
 pub returns-in-Wrong : goal.returns-in-Wrong
 returns-in-Wrong c =
-    let k = c.before.before.before in
-    let a = k.args in
-    let e = one_refusing a.k a.step a.floor a.row.now (length a.work.now) k.check-checked.result k.check-checked.ensures c.in-Wrong.refusal c.in-Wrong.is in
-    (subst (Gives (length a.row.now) a.k _) (sym e) (record { says = refl; beside = refl; tightest_is = refl }), λ w again. refl)
--- ASKED ['gives', 'untouched']
+    let a = c.args in
+    let e = one_refusing a.k a.step a.floor a.row.now (length a.work.now) c.check-checked.result c.check-checked.ensures c.in-Wrong.refusal c.in-Wrong.is in
+    record { gives = subst (Gives (length a.row.now) a.k _) (sym e) (record { says = refl; beside = refl; tightest_is = refl }); untouched = λ w again. refl }
 
 pub returns-in-Fine : goal.returns-in-Fine
 returns-in-Fine c =
-    let f = c.before.before in
-    let o = f.before.before.before in
-    let k = o.before.before in
-    let a = k.args in
-    let e = one_passing a.k a.step a.floor a.row.now (length a.work.now) k.check-checked.result k.check-checked.ensures o.in-Fine.is in
-    (subst (Gives (length a.row.now) a.k f.from_floor.result) (sym e) f.from_floor.ensures, λ w again. said_twice e again)
--- ASKED ['gives', 'untouched']
+    let a = c.args in
+    let e = one_passing a.k a.step a.floor a.row.now (length a.work.now) c.check-checked.result c.check-checked.ensures c.in-Fine.is in
+    record { gives = subst (Gives (length a.row.now) a.k c.from_floor.result) (sym e) c.from_floor.ensures; untouched = λ w again. said_twice e again }

@@ -10,12 +10,10 @@ returns-then-a-b c =
 
 pub returns-in-Wrong : goal.returns-in-Wrong
 returns-in-Wrong c =
-    let k = c.before.before.before in
-    let a = k.args in
-    second_refused a.k a.step a.floor a.a.now a.b.now a.room k.if-a-b.false k.check-second.result k.check-second.ensures c.in-Wrong.why c.in-Wrong.is
+    let a = c.args in
+    second_refused a.k a.step a.floor a.a.now a.b.now a.room c.if-a-b.false c.check-second.result c.check-second.ensures c.in-Wrong.why c.in-Wrong.is
 
 pub returns-in-Fine : goal.returns-in-Fine
 returns-in-Fine c =
-    let k = c.before.before.before in
-    let a = k.args in
-    first_says a.k a.step a.floor a.a.now a.b.now a.room k.if-a-b.false k.check-second.result k.check-second.ensures c.check-in-Fine.result c.in-Fine.is c.check-in-Fine.ensures
+    let a = c.args in
+    first_says a.k a.step a.floor a.a.now a.b.now a.room c.if-a-b.false c.check-second.result c.check-second.ensures c.check-in-Fine.result c.in-Fine.is c.check-in-Fine.ensures

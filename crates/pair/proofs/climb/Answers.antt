@@ -17,7 +17,7 @@ returns-then-not-is_placed c =
     let s = f.before.before.before.before in
     let a = s.args in
     let met = floor_met s.requires (subst T (sym s.well_formed.1.1.1.0.1) tt) in
-    let no = not_placed_at a.k a.step a.row.now (length a.work.now) a.floor s.requires.fine met f.feasible-first.result.answer f.feasible-first.result.hues f.feasible-first.ensures.0.says (sym p.is_placed.ensures ∙ c.if-not-is_placed.true) in
+    let no = not_placed_at a.k a.step a.row.now (length a.work.now) a.floor s.requires.fine met f.feasible-first.result.answer f.feasible-first.result.hues f.feasible-first.ensures.gives.says (sym p.is_placed.ensures ∙ c.if-not-is_placed.true) in
     subst (Gives (length a.row.now) a.k c.nothing.result) (sym (ap value (none_there a.k a.step a.row.now a.floor no))) (c.nothing.ensures (length a.row.now) a.k)
 
 pub rounds-requires : goal.rounds-requires
@@ -28,5 +28,5 @@ rounds-requires c =
     let a = s.args in
     let met = floor_met s.requires (subst T (sym s.well_formed.1.1.1.0.1) tt) in (
       subst (λ (n : ℕ). Ready a.k a.step a.floor a.most a.row.now n) (search rules) s.requires,
-      placed_at_lem a.k a.step a.row.now (length a.work.now) a.floor s.requires.fine met f.feasible-first.result.answer f.feasible-first.result.hues f.feasible-first.ensures.0.says f.feasible-first.result.tightest f.feasible-first.ensures.0.tightest_is (sym p.is_placed.ensures ∙ c.if-not-is_placed.false),
+      placed_at_lem a.k a.step a.row.now (length a.work.now) a.floor s.requires.fine met f.feasible-first.result.answer f.feasible-first.result.hues f.feasible-first.ensures.gives.says f.feasible-first.result.tightest f.feasible-first.ensures.gives.tightest_is (sym p.is_placed.ensures ∙ c.if-not-is_placed.false),
     )

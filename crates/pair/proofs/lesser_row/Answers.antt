@@ -1,7 +1,6 @@
 -- `pair::lesser_row` meets its contract. The invariant: the entries below i are written, and the largest of the values from i on and the largest so far is the
 -- largest of all. Assumes nothing.
 use mathlib.Core.Path.{◌≡◌, refl, sym, ap, ◌∙◌}
-use mathlib.Core.Logic.{⊎_elim}
 use mathlib.Core.List.{[], ◌∷◌}
 use Prim.Native.Nat.{ℕ, ◌+◌, ◌-◌, ◌<◌}
 use native.Mathlib.Nat.{ne_of_lt}
@@ -13,6 +12,7 @@ use borrow.Author.Count.{below_none, below_more}
 use Rattle.pair_rules.specs.Rows.{lesser, greater, value_at, least_row, largest_from, largest}
 use Rattle.pair_rules.proofs.Rows.{least_long, least_at, least_is, of_two, largest_next, largest_done}
 use Rattle.pair.proofs.lesser_row.Goals as goal
+use Rattle.pair.proofs.lesser_row.Goals.{then-y-x, else-y-x, then-most-value, else-most-value}
 
 pub loop-i-init : goal.loop-i-init
 unfolding largest of_bits of_int
@@ -63,10 +63,10 @@ loop-i-preserved c =
     let n = length-set row i v in
     let u : i < length row = omega arith in
     let w : i < length a = omega arith in
-    let value : v ≡ value_at (a ∷ b ∷ []) i = ⊎_elim (λ t. rw (t.1, t.0.taken)) (λ t. rw (t.1, t.0.left)) c.if-y-x.branch ∙ sym (of_two a b i) in
+    let value : v ≡ value_at (a ∷ b ∷ []) i = (elim c.if-y-x.branch [ then-y-x t ↦ rw (t.value-is, t.if-y-x.true) | else-y-x t ↦ rw (t.value-is, t.if-y-x.false) ]) ∙ sym (of_two a b i) in
     let least = least_row (a ∷ b ∷ []) in
     let there = least_long (a ∷ b ∷ []) in
-    let so : c.if-most-value.most ≡ greater most v = ⊎_elim (λ t. rw (t.1, t.0.taken)) (λ t. rw (t.1, t.0.left)) c.if-most-value.branch in (
+    let so : c.if-most-value.most ≡ greater most v = elim c.if-most-value.branch [ then-most-value t ↦ rw (t.most-is, t.if-most-value.true) | else-most-value t ↦ rw (t.most-is, t.if-most-value.false) ] in (
       omega arith,
       n ∙ e,
       below_more _ i (λ (k : ℕ) (g : k < i). get_or-set_other row i k v nan (ne_of_lt g) ∙ l.loop-i.invariant.2 k g) (get_or-set_same row i v nan u ∙ value),

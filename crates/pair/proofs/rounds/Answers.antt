@@ -1,19 +1,19 @@
 -- `pair::rounds` meets its contract. The invariant: what is left of the 30 rounds ends where all of them do, or changes nothing. Assumes nothing.
 use mathlib.Core.Path.{◌≡◌, refl, sym, ap, ◌∙◌, subst}
 use mathlib.Core.Bool.{true, false}
-use mathlib.Core.Logic.{⊎_elim}
 use Prim.Native.Nat.{ℕ, ◌-◌, ◌≤◌, ◌<◌}
 use native.Mathlib.Omega.{arith}
 use lib.Dec.{T}
 use lib.ListN.{length}
 use borrow.Author.Rules.{rules}
-use borrow.Author.Tests.{not-false}
+use borrow.Author.Tests.{not-true, not-false}
 use Rattle.limits.specs.Answers.{value}
 use Rattle.limits.proofs.Floats.{never}
 use Rattle.pair_rules.specs.Pair.{Gives}
 use Rattle.pair.specs.Inner.{Stands}
 use Rattle.pair.proofs.Climbing.{floor_met, most_met, begin, onward, at_last}
 use Rattle.pair.proofs.rounds.Goals as goal
+use Rattle.pair.proofs.rounds.Goals.{then-loop-i-test+else-not-at, else-loop-i-test}
 
 pub loop-i-init : goal.loop-i-init
 loop-i-init c =
@@ -43,7 +43,7 @@ loop-i-preserved c =
     let h : l.loop-i.i < 30 = let k = t.loop-i-test.true in omega arith in (
       omega arith,
       search rules,
-      onward s.requires.0 l.loop-i.invariant.2 u.turn-at.result h (t.if-not-at.true) u.turn-at.ensures,
+      onward s.requires.0 l.loop-i.invariant.2 u.turn-at.result h (not-true _ t.if-not-at.true) u.turn-at.ensures,
     )
 
 pub shape_of-work : goal.shape_of-work
@@ -54,5 +54,5 @@ returns c =
     let e = c.before.before in
     let l = e.before in
     let s = l.before.before.before in
-    let all : l.loop-i.at.still ≡ false → 30 ≤ l.loop-i.i = λ f. ⊎_elim (λ u. never (sym f ∙ not-false _ u.2.left)) (λ u. let h = u.left in omega arith) e.loop-i-test.branch in
+    let all : l.loop-i.at.still ≡ false → 30 ≤ l.loop-i.i = λ f. elim e.loop-i-test.branch [ then-loop-i-test+else-not-at u ↦ never (sym f ∙ not-false _ u.if-not-at.false) | else-loop-i-test u ↦ let h = u.loop-i-test.false in omega arith ] in
     subst (Gives (length s.args.row.now) s.args.k c.found.result) (sym (ap value (at_last s.requires.0 l.loop-i.invariant.2 s.requires.1.passes all))) (c.found.ensures (length s.args.row.now) s.args.k l.loop-i.invariant.2.stands.there.tightest_is)

@@ -1,14 +1,18 @@
 -- `pair::turn` meets its contract: the midpoint is the lower end, or hues are placed there, or none are. Assumes nothing.
 use mathlib.Core.Path.{◌≡◌, sym, ap, ◌∙◌}
 use mathlib.Core.Bool.{true, false}
+use mathlib.Core.List.{List}
+use Prim.Native.Nat.{ℕ}
 use lib.Ieee.{Float}
 use lib.ListN.{length}
 use borrow.Author.Tests.{eqb-true}
 use Rattle.halving.specs.Midpoint.{midpoint}
 use Rattle.halving.proofs.Meeting.{Met, no_nan}
-use Rattle.placement_rules.specs.Placing.{placement_says, tightest_beside, answers}
+use Rattle.placement_rules.specs.declared.Placement.{Placement}
+use Rattle.placement_rules.specs.Placing.{placement_says, tightest_beside, answers, is_placed, Gives}
 use Rattle.pair_rules.specs.Pair.{placeable}
-use Rattle.pair.specs.Inner.{There}
+use Rattle.pair.specs.declared.Bracket.{Bracket}
+use Rattle.pair.specs.Inner.{There, Stands}
 use Rattle.pair.proofs.Climbing.{placed_at_lem, not_placed_at, mid_met, at_low, up, down}
 use Rattle.pair.proofs.turn.Goals as goal
 
@@ -29,43 +33,34 @@ returns-then-mid-lo c =
     at_low s.requires (rw m.midpoint-mid.ensures at c.if-mid-lo.true)
 
 -- what is said at the midpoint
-module _ (p : goal.After-is_placed) where
-  abbrev f : goal.After-feasible-tried
-  f = p.before.before.before
-
-  abbrev m : goal.After-midpoint-mid
-  m = f.before.before.before
-
-  abbrev s : goal.Start
-  s = m.before.before.before.before
-
+module _ {k step : ℕ} {row : List Float} {room : ℕ} {at : Bracket} (s : Stands k step row room at) (c : Float) (is : c ≡ midpoint at.lo at.hi) (tried : Placement) (gives : Gives (length row) k tried (placement_says k step c row room)) where
   abbrev c₀ : Float
-  c₀ = midpoint s.args.at.lo s.args.at.hi
+  c₀ = midpoint at.lo at.hi
 
-  says : answers f.feasible-tried.result.answer f.feasible-tried.result.hues ≡ placement_says s.args.k s.args.step c₀ s.args.row.now (length s.args.work.now)
-  says = f.feasible-tried.ensures.0.says ∙ ap (λ (c : Float). placement_says s.args.k s.args.step c s.args.row.now (length s.args.work.now)) m.midpoint-mid.ensures
+  says : answers tried.answer tried.hues ≡ placement_says k step c₀ row room
+  says = gives.says ∙ ap (λ (x : Float). placement_says k step x row room) is
 
-  apart : f.feasible-tried.result.tightest ≡ tightest_beside (length s.args.row.now) s.args.k (placement_says s.args.k s.args.step c₀ s.args.row.now (length s.args.work.now))
-  apart = f.feasible-tried.ensures.0.tightest_is ∙ ap (λ (c : Float). tightest_beside (length s.args.row.now) s.args.k (placement_says s.args.k s.args.step c s.args.row.now (length s.args.work.now))) m.midpoint-mid.ensures
+  apart : tried.tightest ≡ tightest_beside (length row) k (placement_says k step c₀ row room)
+  apart = gives.tightest_is ∙ ap (λ (x : Float). tightest_beside (length row) k (placement_says k step x row room)) is
 
-  yes : p.is_placed.result ≡ true → There s.args.k s.args.step s.args.row.now c₀ f.feasible-tried.result.hues f.feasible-tried.result.tightest
-  yes t = placed_at_lem s.args.k s.args.step s.args.row.now (length s.args.work.now) s.args.at.lo s.requires.fine (mid_met s.requires) f.feasible-tried.result.answer f.feasible-tried.result.hues says f.feasible-tried.result.tightest apart (sym p.is_placed.ensures ∙ t)
+  yes : is_placed tried.answer ≡ true → There k step row c₀ tried.hues tried.tightest
+  yes t = placed_at_lem k step row room at.lo s.fine (mid_met s) tried.answer tried.hues says tried.tightest apart t
 
-  no : p.is_placed.result ≡ false → placeable s.args.k s.args.step s.args.row.now c₀ ≡ false
-  no t = not_placed_at s.args.k s.args.step s.args.row.now (length s.args.work.now) s.args.at.lo s.requires.fine (mid_met s.requires) f.feasible-tried.result.answer f.feasible-tried.result.hues says (sym p.is_placed.ensures ∙ t)
+  no : is_placed tried.answer ≡ false → placeable k step row c₀ ≡ false
+  no t = not_placed_at k step row room at.lo s.fine (mid_met s) tried.answer tried.hues says t
 
 pub returns-then-is_placed : goal.returns-then-is_placed
 returns-then-is_placed c =
-    let p = c.before.before in
-    rw (m p).midpoint-mid.ensures (up (s p).requires (f p).feasible-tried.result.hues (f p).feasible-tried.result.tightest (yes p c.if-is_placed.true))
+    let t = c.feasible-tried in
+    rw c.midpoint-mid.ensures (up c.requires t.result.hues t.result.tightest (yes c.requires _ c.midpoint-mid.ensures t.result t.ensures.gives (sym c.is_placed.ensures ∙ c.if-is_placed.true)))
 
 pub float_to_bits-still : goal.float_to_bits-still
-float_to_bits-still c = rw (no_nan (mid (m c.before))) tt
+float_to_bits-still c = rw (no_nan (let it : Met c.midpoint-mid.result = rw c.midpoint-mid.ensures (mid_met c.requires) in it)) tt
 
 pub float_to_bits-still-2 : goal.float_to_bits-still-2
-float_to_bits-still-2 c = rw (no_nan (s c.before).requires.high) tt
+float_to_bits-still-2 c = rw (no_nan c.requires.high) tt
 
 pub returns : goal.returns
 returns c =
-    let p = c.before in
-    rw (m p).midpoint-mid.ensures (down (s p).requires _ (λ t. eqb-true _ _ t) (no p c.if-is_placed.false))
+    let t = c.feasible-tried in
+    rw c.midpoint-mid.ensures (down c.requires _ (λ t. eqb-true _ _ t) (no c.requires _ c.midpoint-mid.ensures t.result t.ensures.gives (sym c.is_placed.ensures ∙ c.if-is_placed.false)))
