@@ -1,6 +1,7 @@
 // How good a job is already: its best so far, and the ceiling of the pairs still to come.
 // Its cases are in `ceiling_cases`.
 #![tactic(auto)]
+
 ghost use Rattle.std.specs.Prelude.{◌≡◌, cond, ◌<◌};
 ghost use Rattle.limits.specs.Answers.{value};
 ghost use Rattle.limits.specs.Refusals.{check_said};

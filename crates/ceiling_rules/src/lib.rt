@@ -1,6 +1,7 @@
 // How good a job is already: what a look ahead hands back. The rule and the theorems about the finished job stand in specs/ and proofs/;
 // the code is the crate `ceiling`.
 #![tactic(auto)]
+
 use limits::Refusal;
 use search_rules::Best;
 

@@ -3,6 +3,7 @@
 // has at least one entry for each position of the ring, 720 for a search or a set of levels; what it holds does not matter.
 // They are run by `compare/bench`.
 #![tactic(auto)]
+
 ghost use Rattle.std.specs.Prelude.{◌≡◌, map, ℕ, length};
 ghost use Rattle.limits.specs.Answers.{Untouched};
 ghost use Rattle.placement_rules.specs.Placing.{placement_says, tightest_beside};

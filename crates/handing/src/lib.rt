@@ -1,6 +1,7 @@
 // What a call on rows and rings hands to a caller in another language: one number, and what is written where it is lent.
 // It is run by `compare/bench`.
 #![tactic(auto)]
+
 ghost use Rattle.std.specs.Prelude.{◌≡◌, ℕ, length};
 ghost use Rattle.limits.specs.Answers.{Untouched};
 ghost use Rattle.placement_rules.specs.Placing.{placement_says, tightest_beside};

@@ -1,6 +1,7 @@
 // The line `ask k gap` of the input of `lamp`, in decimal: how many hues, and how far apart the two levels must be, less 1.
 // Its case is the input of `lamp`.
 #![tactic(auto)]
+
 ghost use Rattle.std.specs.Prelude.{◌≡◌, true, List, ◌∷◌, [], ℕ, ◌+◌, ◌-◌, ◌*◌, ◌≤◌, ◌<◌, get_or};
 ghost use Rattle.ring_reading.specs.Numbers.{is_digit};
 ghost use Rattle.lamp_input.specs.Ask.{ask_of, gap_of, is_ask, goes_on, numbers_of, count_from, gap_from, whole_from, decimals_from};

@@ -1,6 +1,7 @@
 // One chroma and its hues for a set of levels: `best_for_level_set` of xtask/src/palette.rs, over a lent table.
 // Its cases are in `level_set_cases`.
 #![tactic(auto)]
+
 ghost use Rattle.std.specs.Prelude.{◌≡◌, ℕ, length};
 ghost use Rattle.limits.specs.Answers.{value, refused, Untouched};
 ghost use Rattle.limits.specs.Refusals.{number, check_said};

@@ -1,6 +1,7 @@
 // The best chroma where one hue is fixed: `best_at_orientation` of xtask/src/palette.rs, for a hue index in place of the angle.
 // Its cases are in `orientation_cases`.
 #![tactic(auto)]
+
 ghost use Rattle.std.specs.Prelude.{◌≡◌, [], ◌∷◌, replicate};
 ghost use Rattle.limits.specs.Answers.{value};
 ghost use Rattle.limits.specs.Refusals.{check_said};

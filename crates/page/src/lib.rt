@@ -1,6 +1,7 @@
 // A page for the service book: a job laid out in lines of 40 bytes, each followed by a newline.
 // Its cases are in `page_cases`.
 #![tactic(auto)]
+
 ghost use Rattle.std.specs.Prelude.{◌≡◌, [], ◌∷◌, ◌*◌, ◌≤◌, length, take};
 ghost use Rattle.search_rules.specs.declared.Best.TheVariants.{Found};
 ghost use Rattle.text.specs.Put.{PutIn};

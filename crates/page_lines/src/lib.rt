@@ -1,6 +1,7 @@
 // Lines of a page: 40 bytes, a word and a number, and a newline after them.
 // Its cases are in `page_cases`.
 #![tactic(auto)]
+
 ghost use Rattle.std.specs.Prelude.{◌≡◌, ◌++◌, ◌-◌, length, take, drop};
 ghost use Rattle.text.specs.Decimal.{numeral};
 ghost use Rattle.text.specs.Put.{PutIn};

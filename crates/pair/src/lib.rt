@@ -1,6 +1,7 @@
 // One pair: `best_for_levels` of xtask/src/palette.rs, over two lent rows; and the same over one row.
 // Its cases are in `pair_cases`, those of one row in `level_set_cases`.
 #![tactic(auto)]
+
 ghost use Rattle.std.specs.Prelude.{◌≡◌, [], ◌∷◌, ℕ, length, take};
 ghost use Rattle.limits.specs.Answers.{value, Untouched};
 ghost use Rattle.limits.specs.Refusals.{check_said};

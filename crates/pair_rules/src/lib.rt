@@ -1,6 +1,7 @@
 // What the best of a pair hands back, and that of a set of levels. The rule, over any number of rows, and what it means stand in
 // specs/ and proofs/; the code is the crates `pair` and `level_set`.
 #![tactic(auto)]
+
 use limits::Refusal;
 
 // The best of a pair, of one row, or of a set of levels.

@@ -3,6 +3,7 @@
 // table their levels and hues were searched in.
 // Its cases are in `palette_cases`.
 #![tactic(auto)]
+
 ghost use Rattle.std.specs.Prelude.{◌≡◌, true, ◌≤◌, length, replicate};
 ghost use Rattle.limits.specs.Answers.{value};
 ghost use Rattle.limits.specs.Taken.{chroma_taken, directions_taken};

@@ -1,6 +1,7 @@
 // What a placement refuses, numbers 1, 3, 4, 5, 7 and 8, and the step for k.
 // Its cases are in `placement_cases`.
 #![tactic(auto)]
+
 ghost use Rattle.std.specs.Prelude.{◌≡◌, ◌&&◌, leb};
 ghost use Rattle.limits.specs.Answers.{value};
 ghost use Rattle.limits.specs.Refusals.{check_said};

@@ -1,6 +1,7 @@
 // What a placement of k hues on a ring hands back. The rule, and what it means, stand in specs/ and proofs/; the code is the crate
 // `placement`.
 #![tactic(auto)]
+
 use limits::Refusal;
 
 // Whether the hues were placed.

@@ -1,6 +1,7 @@
 // The answer to a line: what is said to it, and the bytes of that.
 // Its cases are the lines of `ring`.
 #![tactic(auto)]
+
 ghost use Rattle.std.specs.Prelude.{◌≡◌, ◌≤◌, length, take};
 ghost use Rattle.limits.specs.Answers.{refused};
 ghost use Rattle.limits.specs.Refusals.{number};

@@ -1,6 +1,7 @@
 // An input that arrives in pieces, cut into lines, and the answers to them.
 // Its cases are the lines of `ring`.
 #![tactic(auto)]
+
 ghost use Rattle.std.specs.Prelude.{◌≡◌, cond, [], length};
 ghost use Rattle.text.specs.Put.{PutIn, Laid};
 ghost use Rattle.ring_lines.specs.Pieces.{kept_in, answer_kept, written_at_end};

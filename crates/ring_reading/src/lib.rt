@@ -1,6 +1,7 @@
 // The reading of a line: what it asks, or that it is malformed.
 // Its cases are the lines of `ring`.
 #![tactic(auto)]
+
 ghost use Rattle.std.specs.Prelude.{◌≡◌, true, List, ℕ, ◌+◌, ◌-◌, ◌≤◌, get_or};
 ghost use Rattle.ring_reading.specs.Numbers.{is_digit};
 ghost use Rattle.ring_reading.specs.Fields.{malformed, line_of};

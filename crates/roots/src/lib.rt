@@ -3,6 +3,7 @@
 // with a running remainder, which keeps the cube root inside 64 bits.
 // Its cases are in `color_cases`.
 #![tactic(auto)]
+
 ghost use Rattle.std.specs.Prelude.{◌≡◌, ◌⊎◌, ◌+◌, ◌*◌, ◌^◌, ◌≤◌, ◌<◌};
 ghost use Rattle.halving.specs.Patterns.{worth, least, half_way};
 ghost use Rattle.roots.specs.Roots.{said, root_says};

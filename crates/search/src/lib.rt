@@ -1,6 +1,7 @@
 // The job that searches every pair of levels, a step at a time: `search` of xtask/src/palette.rs, with stepping added.
 // Its cases are in `search_cases`.
 #![tactic(auto)]
+
 ghost use Rattle.std.specs.Prelude.{◌≡◌, true, ℕ, ◌<◌, length};
 ghost use Rattle.limits.specs.Answers.{value, refused, Untouched};
 ghost use Rattle.limits.specs.Refusals.{number};

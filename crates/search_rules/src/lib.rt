@@ -1,6 +1,7 @@
 // The job that searches every pair of levels: its record, and what a call hands back. The rules of start and step, and the theorem
 // over whole runs, stand in specs/ and proofs/; the code is the crate `search`.
 #![tactic(auto)]
+
 use limits::Refusal;
 
 // What a start sets.

@@ -1,6 +1,7 @@
 // Bytes and decimal numbers put into a text that is lent. A text that is too short takes as many bytes as it has room for.
 // Its cases are those of `ring` and `page_cases`.
 #![tactic(auto)]
+
 ghost use Rattle.std.specs.Prelude.{◌≡◌, [], ◌∷◌, ◌+◌, ◌≤◌, ◌<◌, min, drop};
 ghost use Rattle.text.specs.Put.{PutIn};
 ghost use Rattle.text.specs.Decimal.{decimal};

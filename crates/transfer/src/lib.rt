@@ -1,6 +1,7 @@
 // Document 01, "Colour": the constants that stand in for `powf`, and an 8-bit code decoded and encoded by them.
 // Its cases are in `color_cases`.
 #![tactic(auto)]
+
 ghost use Rattle.std.specs.Prelude.{◌≡◌, suc};
 ghost use Rattle.transfer.specs.Transfer.{decode_of, threshold_of, encode_of, Lists};
 

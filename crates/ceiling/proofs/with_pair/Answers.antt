@@ -25,7 +25,6 @@ returns-then-not-qualifies c = passed _ _ _ (sym c.qualifies.ensures ∙ c.if-no
 
 -- the pair qualifies
 
-
 pub returns-then-b-a : goal.returns-then-b-a
 returns-then-b-a c =
     let t = c.before in

@@ -9,4 +9,5 @@ returns c =
     let same = hands_same _ _ chosen.0.says in
     let given = c.hand.ensures in
     ((given.0 ∙ same.0, (given.1.0 ∙ same.1.0, given.1.1 ∙ same.1.1)), chosen.1)
+
 -- ASKED ['value', 'untouched']

@@ -35,6 +35,7 @@ returns-in-Refused c =
     let call = c.search-outcome in
     let e = said call.result.job c.in-Refused.is call.ensures.0.says in
     (refused_gives _ _ _ c.number.ensures e, (gap_left _ e, call.ensures.1))
+
 -- ASKED ['chroma_after', 'tightest_after', 'untouched']
 
 pub returns-in-None : goal.returns-in-None
@@ -42,6 +43,7 @@ returns-in-None c =
     let call = c.search-outcome in
     let e = said call.result.job c.in-Accepted.is call.ensures.0.says in
     (accepted_gives {b = None} _ _ _ c.in-None.is e, (gap_given _ e, call.ensures.1))
+
 -- ASKED ['chroma_after', 'tightest_after', 'untouched']
 
 pub returns-in-Found : goal.returns-in-Found
@@ -49,4 +51,5 @@ returns-in-Found c =
     let call = c.search-outcome in
     let e = said call.result.job c.in-Accepted.is call.ensures.0.says in
     (accepted_gives {b = Found _ _ _} _ _ _ c.in-Found.is e, (gap_given _ e, call.ensures.1))
+
 -- ASKED ['chroma_after', 'tightest_after', 'untouched']

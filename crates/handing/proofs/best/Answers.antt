@@ -11,4 +11,5 @@ returns c =
     let given = c.hand.ensures in
     let gap = c.hand_gap.ensures ∙ gap_same _ chosen.0.says chosen.0.tightest_is in
     ((given.0 ∙ same.0, (given.1.0 ∙ same.1.0, given.1.1 ∙ same.1.1)), (gap, chosen.1))
+
 -- ASKED ['value', 'tightest_after', 'untouched']

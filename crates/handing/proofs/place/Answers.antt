@@ -30,6 +30,7 @@ returns-in-Placed c =
     let found = call.ensures in
     let e = said call.result.hues c.in-Placed.is found.0.says in
     (placed_gives _ e, (gap_given _ e found.0.tightest_is, found.1))
+
 -- ASKED ['value', 'tightest_after', 'untouched']
 
 pub returns-in-Nowhere : goal.returns-in-Nowhere
@@ -38,6 +39,7 @@ returns-in-Nowhere c =
     let found = call.ensures in
     let e = said call.result.hues c.in-Nowhere.is found.0.says in
     (nowhere_gives _ e found.0.beside, (gap_given _ e found.0.tightest_is, found.1))
+
 -- ASKED ['value', 'tightest_after', 'untouched']
 
 pub returns-in-Refused : goal.returns-in-Refused
@@ -47,4 +49,5 @@ returns-in-Refused c =
     let e = said call.result.hues c.in-Refused.is found.0.says in
     let kept = refused_gives _ e in
     ((c.number.ensures ∙ kept.0, kept.1), (gap_left _ _ e, found.1))
+
 -- ASKED ['value', 'tightest_after', 'untouched']

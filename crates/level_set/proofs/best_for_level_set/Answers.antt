@@ -21,6 +21,7 @@ returns-in-Refused c =
     let a = f.args in
     let e = declined a.k a.table.now a.levels.now (length a.work.now) f.step_for-stepping.result f.step_for-stepping.ensures t.in-Refused.why t.in-Refused.is in
     (subst (Gives 720 a.k c.refuse.result) (sym e) (c.refuse.ensures a.k), λ w again. refl)
+
 -- ASKED ['gives', 'untouched']
 
 pub returns-in-Wrong : goal.returns-in-Wrong
@@ -32,6 +33,7 @@ returns-in-Wrong c =
     let a = f.args in
     let e = refusing a.k a.table.now a.levels.now (length a.work.now) f.step_for-stepping.result f.step_for-stepping.ensures t.in-Is.step t.in-Is.is k.check-checked.result k.check-checked.ensures r.in-Wrong.why r.in-Wrong.is in
     (subst (Gives 720 a.k c.refuse-in-Wrong.result) (sym e) (c.refuse-in-Wrong.ensures a.k), λ w again. refl)
+
 -- ASKED ['gives', 'untouched']
 
 pub returns-in-Fine : goal.returns-in-Fine
@@ -44,4 +46,5 @@ returns-in-Fine c =
     let a = f.args in
     let e = passing a.k a.table.now a.levels.now (length a.work.now) f.step_for-stepping.result f.step_for-stepping.ensures t.in-Is.step t.in-Is.is k.check-checked.result k.check-checked.ensures o.in-Fine.is in
     (subst (Gives 720 a.k b.best.result) (sym e) b.best.ensures, λ w again. said_twice e again)
+
 -- ASKED ['gives', 'untouched']

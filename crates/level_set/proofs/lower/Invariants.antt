@@ -7,7 +7,7 @@ use Rattle.pair_rules.specs.Rows.{lesser}
 use Rattle.level_set.proofs.lower.Given as goal
 
 abbrev pub invariant-loop-i : goal.invariant-loop-i
-invariant-loop-i l = 
+invariant-loop-i l =
     (l.i ≤ length l.row)
     × (length l.row ≡ length l.initial.row)
     × ((h : ℕ) → h < l.i → get_or l.row h nan ≡ lesser (get_or l.by h nan) (get_or l.initial.row h nan))

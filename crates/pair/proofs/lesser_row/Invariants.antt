@@ -8,7 +8,7 @@ use Rattle.pair_rules.specs.Rows.{value_at, least_row, largest_from, largest}
 use Rattle.pair.proofs.lesser_row.Given as goal
 
 abbrev pub invariant-loop-i : goal.invariant-loop-i
-invariant-loop-i l = 
+invariant-loop-i l =
     (l.i ≤ length l.row)
     × (length l.row ≡ length l.initial.row)
     × ((k : ℕ) → k < l.i → get_or l.row k nan ≡ value_at (l.a ∷ l.b ∷ []) k)

@@ -8,7 +8,7 @@ use Rattle.palette.proofs.Lowering.{Low}
 use Rattle.palette.proofs.lower_from.Given as goal
 
 abbrev pub invariant-loop-last : goal.invariant-loop-last
-invariant-loop-last l = 
+invariant-loop-last l =
     Low l.c × ((n : ℕ) × ((back_off_said l.last ≡ value (lastly n)) × (end_after (judge_at l.design l.cos l.sin) l.c n ≡ end_of (judge_at l.design l.cos l.sin) l.chroma)))
 
 abbrev pub decreases-loop-last : goal.decreases-loop-last

@@ -95,8 +95,8 @@ loop-i-preserved c =
       let h = c.loop-i-test.true in omega arith,
       rw next
           (elim c.if-step-more.branch [
-            then-step-more u ↦ rw (u.root-is, u.rest-is, is) (one n w l.i l.root l.rest l.tail l.invariant.1 g.result g.ensures.0 (rw is at u.if-step-more.true))
-          | else-step-more u ↦ rw (u.root-is, u.rest-is, is) (none n w l.i l.root l.rest l.tail l.invariant.1 g.result g.ensures.0 (rw is at u.if-step-more.false))
+            | then-step-more u ↦ rw (u.root-is, u.rest-is, is) (one n w l.i l.root l.rest l.tail l.invariant.1 g.result g.ensures.0 (rw is at u.if-step-more.true))
+            | else-step-more u ↦ rw (u.root-is, u.rest-is, is) (none n w l.i l.root l.rest l.tail l.invariant.1 g.result g.ensures.0 (rw is at u.if-step-more.false))
           ]),
     )
 

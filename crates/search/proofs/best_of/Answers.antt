@@ -17,4 +17,5 @@ returns c =
     let e = pair_says_lem a.job a.table.now (length a.work.now) a.dark a.light f.step_of.result f.floor_of.result s.requires f.step_of.ensures f.floor_of.ensures in
     let given = t.best_for_levels.ensures in
     (given_round a.job a.table.now (length a.work.now) a.dark a.light s.requires e given.0, λ w again. given.1 w (e ∙ again))
+
 -- ASKED ['gives', 'untouched']

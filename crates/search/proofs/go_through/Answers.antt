@@ -30,6 +30,7 @@ returns-then-not-qualifies c =
     let a = q.args in
     let e = passed_over a.job a.table.now a.dark a.light (sym q.qualifies.ensures ∙ c.if-not-qualifies.true) in
     (accepting a.job c.moved_on.ensures e c.accept.ensures, λ w again. refl)
+
 -- ASKED ['gives', 'untouched']
 
 pub returns-then-beats : goal.returns-then-beats
@@ -45,6 +46,7 @@ returns-then-beats c =
     let better = sym c.beats.ensures ∙ c.if-beats.true in
     let e = went_better a.job a.table.now a.dark a.light far answer hues given.0.says found.0.0 found.1 g.best_of-chosen.result.tightest given.0.tightest_is better in
     (accepting a.job c.replaced.ensures e c.accept-then-beats.ensures, λ w again. said_twice e again)
+
 -- ASKED ['gives', 'untouched']
 
 pub returns-in-Refused : goal.returns-in-Refused
@@ -60,6 +62,7 @@ returns-in-Refused c =
     let e = went_refused a.job a.table.now a.dark a.light far answer hues given.0.says why.0.0 why.1 in
     let f = given_refused a.job a.table.now a.dark a.light far answer hues given.0.says why.0.0 why.1 in
     (refusing e c.refuse.ensures, λ w again. given.1 (number why.0.0) f)
+
 -- ASKED ['gives', 'untouched']
 
 pub returns-in-Nothing : goal.returns-in-Nothing
@@ -73,6 +76,7 @@ returns-in-Nothing c =
     let answer = g.best_of-chosen.result.answer in
     let e = went_nowhere a.job a.table.now a.dark a.light far answer hues given.0.says c.in-Nothing.is in
     (accepting a.job c.moved_on-in-Nothing.ensures e c.accept-in-Nothing.ensures, λ w again. said_twice e again)
+
 -- ASKED ['gives', 'untouched']
 
 pub returns-else-beats : goal.returns-else-beats
@@ -88,4 +92,5 @@ returns-else-beats c =
     let worse = sym c.beats.ensures ∙ c.if-beats.false in
     let e = went_worse a.job a.table.now a.dark a.light far answer hues given.0.says found.0.0 found.1 worse in
     (accepting a.job c.moved_on-in-Found.ensures e c.accept-in-Found.ensures, λ w again. said_twice e again)
+
 -- ASKED ['gives', 'untouched']

@@ -39,6 +39,7 @@ returns-then-work-lt-HUES c =
     let room = length a.work.now in
     let e = start_fine a.settings a.table.now k.check_start-checked.result k.check_start-checked.ensures (checked_room a.settings a.table.now room) c.in-Fine.is ∙ too_little a.settings a.table.now room c.if-work-lt-HUES.true in
     (refusing e c.refuse-then-work-lt-HUES.ensures, λ w again. refl)
+
 -- ASKED ['gives', 'untouched']
 
 pub overflow_mul-levels : goal.overflow_mul-levels
@@ -57,6 +58,7 @@ returns-in-Wrong c =
     let a = k.args in
     let e = start_wrong a.settings a.table.now k.check_start-checked.result k.check_start-checked.ensures (checked_room a.settings a.table.now (length a.work.now)) c.in-Wrong.why c.in-Wrong.is in
     (refusing e c.refuse.ensures, λ w again. refl)
+
 -- ASKED ['gives', 'untouched']
 
 pub returns-else-work-lt-HUES : goal.returns-else-work-lt-HUES
@@ -70,4 +72,5 @@ returns-else-work-lt-HUES c =
     let e = start_fine a.settings table k.check_start-checked.result k.check_start-checked.ensures (checked_room a.settings table room) c.in-Fine.is ∙ enough a.settings table room c.if-work-lt-HUES.false in
     let last = c.take_steps.ensures ∙ ap (λ (j : Job). steps_from (n * n) j table room) c.begin.ensures in
     (accepting a.job last e c.accept.ensures, λ w again. said_twice e again)
+
 -- ASKED ['gives', 'untouched']

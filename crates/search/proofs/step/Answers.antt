@@ -13,7 +13,6 @@ use Rattle.search.proofs.step.Goals as goal
 
 -- what a check that is passed says of the job, the table and the work buffer
 
-
 pub nonzero_div-dark : goal.nonzero_div-dark
 nonzero_div-dark c = (sound c.args.job (let it : (let a = c.before.args in StepPassed a.job (length a.table.now) (length a.work.now)) = let k = c.before.before.before in let a = k.args in step_known a.job (length a.table.now) (length a.work.now) k.check_step-checked.result k.check_step-checked.ensures c.before.in-Fine.is in it).sound).some_level
 
@@ -37,6 +36,7 @@ returns-in-Wrong c =
     let a = k.args in
     let e = step_wrong a.job (length a.table.now) (length a.work.now) k.check_step-checked.result k.check_step-checked.ensures (searched a.job a.table.now (a.job.position / a.job.levels) (a.job.position % a.job.levels)) c.in-Wrong.why c.in-Wrong.is in
     (refusing e c.refuse.ensures, λ w again. refl)
+
 -- ASKED ['gives', 'untouched']
 
 pub returns-in-Fine : goal.returns-in-Fine
@@ -47,4 +47,5 @@ returns-in-Fine c =
     let e = step_fine a.job (length a.table.now) (length a.work.now) k.check_step-checked.result k.check_step-checked.ensures (searched a.job a.table.now (a.job.position / a.job.levels) (a.job.position % a.job.levels)) c.in-Fine.is in
     let given = c.go_through.ensures in
     (subst (Gives c.go_through.result a.job) (sym e) given.0, λ w again. given.1 w (sym e ∙ again))
+
 -- ASKED ['gives', 'untouched']

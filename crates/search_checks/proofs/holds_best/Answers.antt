@@ -11,7 +11,6 @@ use Rattle.search_checks.proofs.holds_best.Goals as goal
 
 -- the first two tests, and the first three
 
-
 dark-held : (c : goal.Joined-c-2) → c.if-c-2.if3 ≡ ((le (f32_of 35) c.in-Found.c && le c.in-Found.c (f32_of 200)) && ltb c.in-Found.d c.args.levels)
 (let it : c.if-c-2.if3 ≡ ((le (f32_of 35) c.in-Found.c && le c.in-Found.c (f32_of 200)) && ltb c.in-Found.d c.args.levels) = let k = c.before.before.before in let d = ltb k.in-Found.d k.args.levels in ⊎_elim (λ t. t.1 ∙ ap (λ (b : Bool). b && d) (sym t.0.taken ∙ chroma-held c.before)) (λ t. t.1 ∙ t.0.left ∙ ap (λ (b : Bool). b && d) (sym t.0.left ∙ chroma-held c.before)) c.if-c-2.branch in it) =
     let k = c.before.before.before in

@@ -7,7 +7,6 @@ use Rattle.search_checks.proofs.holds_handed.Goals as goal
 
 -- the hues are held by what stands for something beside this best
 
-
 pub returns-then-holds_hues : goal.returns-then-holds_hues
 returns-then-holds_hues c =
     let h = c.before.before in
