@@ -4,7 +4,6 @@ use mathlib.Core.List.{List}
 use Prim.Native.Nat.{ℕ, ◌+◌, ◌-◌, ◌≤◌, ◌<◌}
 use native.Mathlib.Omega.{arith}
 use lib.ListN.{length, take, drop, length-take, length-drop}
-use borrow.Author.Rules.{rules}
 use borrow.Author.Tests.{ltb-true}
 use Rattle.ring_lines.specs.Pieces.{Kept, taken_from}
 use Rattle.ring_lines.proofs.Taking.{taken_within, taken_some}
@@ -20,36 +19,20 @@ advance piece at kept taken h e =
     let v = taken_some kept left (omega arith) in
     (omega arith, omega arith)
 
--- LEFT part-answer-piece-start : tie.Need-slice-bounds-answer-piece-start invariant-loop decreases-loop
--- part-answer-piece-start c = c.before.before.loop.invariant
-
--- LEFT part-answer-piece-end : tie.Need-slice-bounds-answer-piece-end invariant-loop decreases-loop
--- part-answer-piece-end c = search rules
-
 pub overflow_add-at : goal.overflow_add-at
 overflow_add-at c =
-    let p1 = c.before.before.before.before in
-    let p2 = p1.before.before.before.before in
-    let p3 = p2.before.before in
-    let p4 = p3.before.before in
-    let h = ltb-true _ _ p2.if-at-piece.true in
-    let a = advance p4.args.piece.now p3.loop-more.at _ _ h p1.answer_piece-progress.ensures.takes in
+    let h = ltb-true _ _ c.if-at-piece.true in
+    let a = advance c.args.piece.now c.loop-more.at _ _ h c.answer_piece-progress.ensures.takes in
     omega arith
 
 pub loop-more-smaller : goal.loop-more-smaller
 loop-more-smaller c =
-    let p1 = c.before.before.before.before in
-    let p2 = p1.before.before.before.before in
-    let p3 = p2.before.before in
-    let p4 = p3.before.before in
-    let h = ltb-true _ _ p2.if-at-piece.true in
-    let a = advance p4.args.piece.now p3.loop-more.at _ _ h p1.answer_piece-progress.ensures.takes in
+    let h = ltb-true _ _ c.if-at-piece.true in
+    let a = advance c.args.piece.now c.loop-more.at _ _ h c.answer_piece-progress.ensures.takes in
     omega arith
 
 pub loop-more-preserved : goal.loop-more-preserved
 loop-more-preserved c =
-    let p1 = c.before.before.before.before in
-    let p2 = p1.before.before.before.before in
-    let p3 = p2.before.before in
-    let p4 = p3.before.before in
-    let h = ltb-true _ _ p2.if-at-piece.true in let a = advance p4.args.piece.now p3.loop-more.at _ _ h p1.answer_piece-progress.ensures.takes in a.0
+    let h = ltb-true _ _ c.if-at-piece.true in
+    let a = advance c.args.piece.now c.loop-more.at _ _ h c.answer_piece-progress.ensures.takes in
+    a.0

@@ -7,4 +7,4 @@ use Rattle.ring_answers.proofs.place.Goals as goal
 
 pub returns : goal.returns
 unfolding work_needed
-returns c = in_room _ _ _ _ _ (omega arith) (rw sub-zero at c.feasible.ensures.0.says)
+returns c = in_room _ _ _ _ _ (omega arith) (rw sub-zero at c.feasible.ensures.gives.says)

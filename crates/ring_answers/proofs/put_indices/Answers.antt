@@ -3,7 +3,7 @@ use mathlib.Core.Path.{◌≡◌}
 use native.Mathlib.Omega.{arith}
 use lib.ListN.{length, take}
 use borrow.Author.Rules.{rules}
-use borrow.Author.Tests.{ltb-true, ltb-false}
+use borrow.Author.Tests.{ltb-true}
 use Rattle.text.proofs.Put.{put_kept}
 use Rattle.ring_answers.proofs.Parted.{indices_none, indices_next, taken_all}
 use Rattle.ring_answers.proofs.put_indices.Goals as goal
@@ -24,7 +24,7 @@ shape_of-text-else-i-lt16 c = put_kept c.loop-i.invariant.2
 pub returns-else-i-lt16 : goal.returns-else-i-lt16
 returns-else-i-lt16 c =
     let n : length c.args.hues ≡ 16 = search rules in
-    let e : take c.loop-i.i c.args.hues ≡ take c.args.k c.args.hues = taken_all c.args.hues _ _ n c.loop-i.invariant.1 (ltb-false _ _ c.if-i-lt16.false) in
+    let e : take c.loop-i.i c.args.hues ≡ take c.args.k c.args.hues = taken_all c.args.hues _ _ n c.loop-i.invariant.1 c.if-i-lt16.false in
     rw e at c.loop-i.invariant.2
 
 pub shape_of-text-after-loop-i : goal.shape_of-text-after-loop-i
