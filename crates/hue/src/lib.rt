@@ -1,6 +1,7 @@
 // The hue of a colour by lent directions: document 01's stand-in for `atan2`.
 // Its cases are in `color_cases`.
 #![tactic(auto)]
+
 ghost use Rattle.std.specs.Prelude.{◌≡◌, length, ◌≤◌, ◌<◌};
 ghost use Rattle.hue.specs.Hue.{side_at, changes, hue_of, hue_said, hue_says, color_hues, hues_said, hues_says, degrees_beside};
 
