@@ -2,6 +2,7 @@
 // crates/lcr-core/src/color.rs.
 // Its cases are in `color_cases`.
 #![tactic(auto)]
+
 ghost use Rattle.std.specs.Prelude.{◌≡◌};
 ghost use Rattle.clipping.specs.Clip.{clipped_of};
 
