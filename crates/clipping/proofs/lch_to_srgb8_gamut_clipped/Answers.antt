@@ -1,14 +1,13 @@
 -- `clipping::lch_to_srgb8_gamut_clipped` meets its contract. The invariant: what is left of the 24 halvings, from lo to hi, ends where all of them do. Assumes nothing.
 use mathlib.Core.Path.{◌≡◌, refl, sym, ◌∙◌}
-use mathlib.Core.Logic.{⊎_elim}
-use mathlib.Core.Bool.{true, false}
-use Prim.Native.Nat.{◌-◌, ◌≤◌, ◌<◌}
+use Prim.Native.Nat.{◌≤◌}
 use native.Mathlib.Omega.{arith}
 use lib.Ieee.{of_bits, of_int}
 use Rattle.halving.proofs.Halve.{turn_up, turn_down, turned}
 use Rattle.color.specs.Color.{lch_in_gamut}
 use Rattle.clipping.specs.Clip.{lowered, clipped_of}
 use Rattle.clipping.proofs.lch_to_srgb8_gamut_clipped.Goals as goal
+use Rattle.clipping.proofs.lch_to_srgb8_gamut_clipped.Goals.{then-lch_in_gamut-2, else-lch_in_gamut-2}
 
 pub returns-then-lch_in_gamut : goal.returns-then-lch_in_gamut
 unfolding clipped_of
@@ -28,30 +27,22 @@ loop-i-smaller c = let h = c.loop-i-test.true in omega arith
 
 pub loop-i-preserved : goal.loop-i-preserved
 loop-i-preserved c =
-    let g = c.before in
-    let m = g.before in
-    let t = m.before in
-    let l = t.before in
-    let s = l.before.before.before in
-    let ok = lch_in_gamut s.args.l s.args.cos s.args.sin in
-    let k = t.loop-i-test.true in
-    let h : l.loop-i.i < 24 = omega arith in
-    let e = m.midpoint-mid.ensures in
-    let i = l.loop-i.i in (
+    let ok = lch_in_gamut c.args.l c.args.cos c.args.sin in
+    let h = c.loop-i-test.true in
+    let e = c.midpoint-mid.ensures in
+    let i = c.loop-i.i in
+    let rest = c.loop-i.invariant.1 in (
       omega arith,
-      ⊎_elim
-          (λ u. rw (u.1, u.2, e) (turn_up ok 24 i l.loop-i.lo l.loop-i.hi _ l.loop-i.invariant.1 h (rw e at (sym g.lch_in_gamut-in-loop-i.ensures ∙ u.0.taken))))
-          (λ u. rw (u.1, u.2, e) (turn_down ok 24 i l.loop-i.lo l.loop-i.hi _ l.loop-i.invariant.1 h (rw e at (sym g.lch_in_gamut-in-loop-i.ensures ∙ u.0.left))))
-          c.if-lch_in_gamut-2.branch,
+      elim c.if-lch_in_gamut-2.branch [
+        | then-lch_in_gamut-2 w ↦ rw (w.lo-is, w.hi-is, e) (turn_up ok 24 i c.loop-i.lo c.loop-i.hi _ rest h (rw e at (sym c.lch_in_gamut-in-loop-i.ensures ∙ w.if-lch_in_gamut-2.true)))
+        | else-lch_in_gamut-2 w ↦ rw (w.lo-is, w.hi-is, e) (turn_down ok 24 i c.loop-i.lo c.loop-i.hi _ rest h (rw e at (sym c.lch_in_gamut-in-loop-i.ensures ∙ w.if-lch_in_gamut-2.false)))
+      ],
     )
 
 pub returns : goal.returns
 unfolding clipped_of
 returns c =
-    let a = c.before.before.before.before in
-    let l = a.before in
-    let s = l.before.before.before in
-    let ok = lch_in_gamut s.args.l s.args.cos s.args.sin in
-    let last : 24 ≤ l.loop-i.i = let k = a.loop-i-test.false in omega arith in
-    let low : l.loop-i.lo ≡ lowered 24 s.args.l s.args.c s.args.cos s.args.sin = turned ok 24 l.loop-i.i l.loop-i.lo l.loop-i.hi _ l.loop-i.invariant.1 last in
-    rw (c.linear_to_srgb8-2.ensures, c.clamped.ensures, c.lab_to_linear-2.ensures, c.lch_to_lab-2.ensures, low, sym l.lch_in_gamut.ensures ∙ l.if-lch_in_gamut.false)
+    let ok = lch_in_gamut c.args.l c.args.cos c.args.sin in
+    let last : 24 ≤ c.loop-i.i = let k = c.loop-i-test.false in omega arith in
+    let low : c.loop-i.lo ≡ lowered 24 c.args.l c.args.c c.args.cos c.args.sin = turned ok 24 c.loop-i.i c.loop-i.lo c.loop-i.hi _ c.loop-i.invariant.1 last in
+    rw (c.linear_to_srgb8-2.ensures, c.clamped.ensures, c.lab_to_linear-2.ensures, c.lch_to_lab-2.ensures, low, sym c.lch_in_gamut.ensures ∙ c.if-lch_in_gamut.false)

@@ -1,7 +1,7 @@
 -- `hues_of` meets its contract. The invariant: the degrees are the hues of the first i colours. Assumes nothing.
 use mathlib.Core.Path.{◌≡◌, sym, ap, ◌∙◌}
 use mathlib.Core.List.{List}
-use Prim.Native.Nat.{ℕ, ◌-◌}
+use Prim.Native.Nat.{ℕ}
 use native.Mathlib.Numerals.{add-one}
 use native.Mathlib.Omega.{arith}
 use lib.Ieee.{Float, of_bits, of_int}
@@ -20,7 +20,7 @@ pub loop-i-init : goal.loop-i-init
 unfolding of_bits of_int
 loop-i-init c =
     let s = c.before.before in
-    let colors = s.args.t2 in
+    let colors = s.args.colors in
     let long : length colors ≡ 32 = omega arith in
     (omega arith, ap (λ (n : ℕ). replicate n (f32_of 0)) (sym long) ∙ hues_none s.args.cos.now s.args.sin.now colors)
 
@@ -34,7 +34,7 @@ loop-i-preserved c =
     let s = l.before.before.before in
     let cs = s.args.cos.now in
     let ss = s.args.sin.now in
-    let colors = s.args.t2 in
+    let colors = s.args.colors in
     let i = l.loop-i.i in
     let v : c.hue_of.result ≡ color_hue cs ss (get_or colors i black) = c.hue_of.ensures ∙ ap (λ (x : Lab). hue_of cs ss x.a x.b) c.srgb8_to_lab-lab.ensures in (
       omega arith,
@@ -49,4 +49,4 @@ returns c =
     let l = c.before in
     let s = l.before.before.before in
     let e : l.loop-i.i ≡ s.args.n = omega arith in
-    l.loop-i.invariant.1 ∙ ap (λ (n : ℕ). color_hues s.args.cos.now s.args.sin.now n s.args.t2) e
+    l.loop-i.invariant.1 ∙ ap (λ (n : ℕ). color_hues s.args.cos.now s.args.sin.now n s.args.colors) e
