@@ -6,7 +6,7 @@ use lib.Dec.{leb}
 use lib.Ieee.{Float}
 use lib.ListN.{length}
 use borrow.Author.Tests.{leb-true}
-use Rattle.limits.specs.Answers.{Said, value, refused, pass}
+use Rattle.limits.specs.Answers.{value, refused, pass}
 use Rattle.limits.specs.Refusals.{number, check_said}
 use Rattle.limits.specs.declared.Refusal.{Refusal}
 use Rattle.limits.specs.declared.Checked.{Checked}

@@ -1,6 +1,6 @@
 -- `pair::largest` meets its contract. The invariant: the largest of the values from i on and the largest so far is the largest of all. Assumes nothing.
 use mathlib.Core.Path.{◌≡◌, refl, ap, ◌∙◌}
-use Prim.Native.Nat.{◌+◌, ◌-◌}
+use Prim.Native.Nat.{◌+◌}
 use native.Mathlib.Omega.{arith}
 use lib.Ieee.{Float, nan, of_bits, of_int}
 use lib.ListN.{get_or, drop}

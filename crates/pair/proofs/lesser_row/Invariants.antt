@@ -1,4 +1,5 @@
 -- `pair::lesser_row` meets its contract. The invariant: the entries below i are written, and the largest of the values from i on and the largest so far is the
+-- largest of all. Assumes nothing.
 use mathlib.Core.Path.{◌≡◌}
 use mathlib.Core.List.{[], ◌∷◌}
 use Prim.Native.Nat.{ℕ, ◌-◌, ◌≤◌, ◌<◌}

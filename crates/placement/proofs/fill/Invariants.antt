@@ -1,6 +1,6 @@
 -- `placement::fill` meets its contract. The invariant: the table is filled from index i on, and what was last seen is the earliest allowed index from there. Assumes nothing.
 use mathlib.Core.Path.{◌≡◌}
-use Prim.Native.Nat.{◌-◌, ◌≤◌}
+use Prim.Native.Nat.{◌≤◌}
 use lib.ListN.{length}
 use Rattle.placement_rules.specs.Ring.{earliest}
 use Rattle.placement_rules.specs.Placing.{allowed_at}

@@ -4,7 +4,7 @@ use Prim.Native.Nat.{ℕ, ◌-◌, ◌*◌, ◌≤◌}
 use native.Mathlib.Nat.{mul-le-mul, sub-zero}
 use native.Mathlib.Omega.{arith}
 use lib.ListN.{length}
-use Rattle.placement_rules.specs.Ring.{nowhere, from_start}
+use Rattle.placement_rules.specs.Ring.{from_start}
 use Rattle.placement_rules.specs.Placing.{allowed_at, sixteen}
 use Rattle.placement.proofs.Placing.{gives_same}
 use Rattle.placement.proofs.First.{placed_there, not_placed_there, found, onward, none}

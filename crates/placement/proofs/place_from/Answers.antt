@@ -2,7 +2,6 @@
 -- on, is the whole. Assumes nothing.
 use mathlib.Core.Path.{◌≡◌, ◌∙◌}
 use mathlib.Core.Bool.{true, false}
-use Prim.Native.Nat.{◌-◌}
 use native.Mathlib.Omega.{arith}
 use Rattle.placement_rules.specs.Placing.{allowed_at}
 use Rattle.placement.proofs.Table.{allowed_there}

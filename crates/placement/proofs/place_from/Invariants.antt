@@ -1,4 +1,5 @@
 -- `placement::place_from` meets its contract. The invariant is `Turn`: what was asked at entry, and that what is stored so far, with the rest of the definition from cur
+-- on, is the whole. Assumes nothing.
 use Prim.Native.Nat.{◌-◌}
 use Rattle.placement.proofs.Turns.{Turn}
 use Rattle.placement.proofs.place_from.Given as goal

@@ -1,6 +1,6 @@
 -- `placement::tightest` meets its contract. The invariant: what is least so far is the smallest gap from the hue at `at` on. Assumes nothing.
 use mathlib.Core.Path.{◌≡◌}
-use Prim.Native.Nat.{◌-◌, ◌<◌}
+use Prim.Native.Nat.{◌<◌}
 use Rattle.placement.proofs.Gaps.{from}
 use Rattle.placement.proofs.tightest.Given as goal
 
