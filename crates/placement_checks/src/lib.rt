@@ -10,7 +10,7 @@ use limits::{Checked, Refusal};
 pub use placement_rules::Stepping;
 
 // How far apart k hues must be, in half degrees: ceil(600 / k) + 1, a line for each k, to be read beside the written separation rule.
-#[tactic(auto, unfolding(step_says, step_for, hue_count_taken))]
+#[tactic(auto, unfolding(placement_rules::specs::Placing::step_says, placement_rules::specs::Placing::step_for, limits::specs::Taken::hue_count_taken))]
 pub fn step_for(k: usize) -> Stepping
     ensures { step_said result ≡ step_says k }
 {
