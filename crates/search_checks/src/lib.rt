@@ -20,6 +20,7 @@ fn starts_gap(gap: f32) -> bool
 }
 
 // The first refusal of a start, of 1, 2, 6 and 7 over the whole table.
+#[tactic(auto, unfolding(search_rules::specs::Job::start_checked_by))]
 pub fn check_start(settings: Settings, table: &[f32]) -> Checked
     ensures { check_said result ≡ start_checked settings table.now (value tt) }
 {
@@ -48,6 +49,7 @@ fn holds_hues(n: usize, hues: [u16; 16]) -> bool
 }
 
 // Whether a best so far is in its ranges, in a table of so many levels.
+#[tactic(auto, unfolding(search_rules::specs::Job::best_held))]
 fn holds_best(levels: usize, best: Best) -> bool
     ensures { result ≡ best_held levels best }
 {
@@ -85,6 +87,7 @@ fn holds_handed(k: usize, best: Best, hues: [u16; 16], tightest: usize) -> bool
 }
 
 // Whether no field of a job is out of its range.
+#[tactic(auto, unfolding(search_rules::specs::Job::unbroken))]
 pub fn is_unbroken(job: Job) -> bool
     ensures { result ≡ unbroken job }
 {
@@ -107,6 +110,7 @@ pub fn is_unbroken(job: Job) -> bool
 }
 
 // The first refusal of a step before it reads a row, of 15, 14, 6 and 8.
+#[tactic(auto, unfolding(search_rules::specs::Job::step_checked, placement_rules::specs::Placing::work_needed))]
 pub fn check_step(job: Job, length: usize, room: usize) -> Checked
     ensures { check_said result ≡ step_checked job length room (value tt) }
 {
