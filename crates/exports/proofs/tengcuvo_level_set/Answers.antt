@@ -6,8 +6,6 @@ use Rattle.exports.proofs.tengcuvo_level_set.Goals as goal
 pub returns : goal.returns
 returns c =
     let chosen = c.best_for_level_set.ensures in
-    let same = hands_same _ _ chosen.0.says in
+    let same = hands_same _ _ chosen.gives.says in
     let given = c.hand.ensures in
-    ((given.0 ∙ same.0, (given.1.0 ∙ same.1.0, given.1.1 ∙ same.1.1)), chosen.1)
-
--- ASKED ['value', 'untouched']
+    record { value = (given.0 ∙ same.0, (given.1.0 ∙ same.1.0, given.1.1 ∙ same.1.1)); untouched = chosen.untouched }

@@ -33,23 +33,17 @@ gap_left old e = ap (λ s. search_gap s old) e
 pub returns-in-Refused : goal.returns-in-Refused
 returns-in-Refused c =
     let call = c.search-outcome in
-    let e = said call.result.job c.in-Refused.is call.ensures.0.says in
-    (refused_gives _ _ _ c.number.ensures e, (gap_left _ e, call.ensures.1))
-
--- ASKED ['chroma_after', 'tightest_after', 'untouched']
+    let e = said call.result.job c.in-Refused.is call.ensures.gives.says in
+    record { chroma_after = refused_gives _ _ _ c.number.ensures e; tightest_after = gap_left _ e; untouched = call.ensures.untouched }
 
 pub returns-in-None : goal.returns-in-None
 returns-in-None c =
     let call = c.search-outcome in
-    let e = said call.result.job c.in-Accepted.is call.ensures.0.says in
-    (accepted_gives {b = None} _ _ _ c.in-None.is e, (gap_given _ e, call.ensures.1))
-
--- ASKED ['chroma_after', 'tightest_after', 'untouched']
+    let e = said call.result.job c.in-Accepted.is call.ensures.gives.says in
+    record { chroma_after = accepted_gives {b = None} _ _ _ c.in-None.is e; tightest_after = gap_given _ e; untouched = call.ensures.untouched }
 
 pub returns-in-Found : goal.returns-in-Found
 returns-in-Found c =
     let call = c.search-outcome in
-    let e = said call.result.job c.in-Accepted.is call.ensures.0.says in
-    (accepted_gives {b = Found _ _ _} _ _ _ c.in-Found.is e, (gap_given _ e, call.ensures.1))
-
--- ASKED ['chroma_after', 'tightest_after', 'untouched']
+    let e = said call.result.job c.in-Accepted.is call.ensures.gives.says in
+    record { chroma_after = accepted_gives {b = Found _ _ _} _ _ _ c.in-Found.is e; tightest_after = gap_given _ e; untouched = call.ensures.untouched }
