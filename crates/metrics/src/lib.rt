@@ -2,6 +2,7 @@
 // its colours the first k are of the dark level, and the k after them of the light one.
 // Its cases are in `palette_cases`.
 #![tactic(auto)]
+
 ghost use Rattle.std.specs.Prelude.{◌≡◌, false, ◌-◌, ◌≤◌, min, take, drop};
 ghost use Rattle.std.specs.Float.{inf, binary32};
 ghost use Rattle.std.specs.Float.Ieee.{sub};
