@@ -8,7 +8,7 @@ use lib.Dec.{leb, ltb}
 use lib.Ieee.{Float}
 use lib.ListN.{length}
 use borrow.Author.Tests.{leb-true, le-leb, ltb-true, lt-ltb}
-use Rattle.limits.specs.Answers.{Said, value}
+use Rattle.limits.specs.Answers.{value}
 use Rattle.limits.specs.Taken.{hue_count_taken, entry_taken, every}
 use Rattle.limits.specs.Each.{Each}
 use Rattle.limits.proofs.Checks.{Check, check, AllPass, all_pass, said, same_value}

@@ -26,6 +26,7 @@ use Rattle.level_set_rules.proofs.Named.{first_row, rows_lengths, rows_f32}
 
 -- ---- what holds of each element of a list holds of each that stands in it
 each_of : (P : ℕ → Type 0) (levels : List ℕ) → Each P levels → (l : ℕ) → In l levels → P l
+each_of P [] h l x = elim x [ ]
 each_of P (m ∷ levels) h l (inl e) = subst P (sym e) h.0
 each_of P (m ∷ levels) h l (inr i) = each_of P levels h.1 l i
 
