@@ -21,7 +21,7 @@ returns-then-most-hues c =
     let at : i < length hues = omega arith in
     sym
     (elim c.if-i-n.branch [
-        then-i-n w ↦ let large : 719 < get_or hues i 0 = subst (λ (m : ℕ). m < get_or hues i 0) w.most-is c.if-most-hues.true in first_fails c.args.n hues i at w.if-i-n.true large
+      | then-i-n w ↦ let large : 719 < get_or hues i 0 = subst (λ (m : ℕ). m < get_or hues i 0) w.most-is c.if-most-hues.true in first_fails c.args.n hues i at w.if-i-n.true large
       | else-i-n w ↦ let large : 0 < get_or hues i 0 = subst (λ (m : ℕ). m < get_or hues i 0) w.most-is c.if-most-hues.true in rest_fails c.args.n hues i at w.if-i-n.false large
     ])
     ∙ c.loop-i.invariant.1
@@ -34,7 +34,7 @@ loop-i-preserved c =
     let hues = c.args.hues in
     let at : i < length hues = omega arith in
     let on : hues_held (c.args.n - i) (drop i hues) ≡ hues_held (c.args.n - (i + 1)) (drop (i + 1) hues) = elim c.if-i-n.branch [
-        then-i-n w ↦ let small : get_or hues i 0 ≤ 719 = subst (λ (m : ℕ). get_or hues i 0 ≤ m) w.most-is c.if-most-hues.false in first_next c.args.n hues i at w.if-i-n.true small
+      | then-i-n w ↦ let small : get_or hues i 0 ≤ 719 = subst (λ (m : ℕ). get_or hues i 0 ≤ m) w.most-is c.if-most-hues.false in first_next c.args.n hues i at w.if-i-n.true small
       | else-i-n w ↦ let small : get_or hues i 0 ≤ 0 = subst (λ (m : ℕ). get_or hues i 0 ≤ m) w.most-is c.if-most-hues.false in rest_next c.args.n hues i at w.if-i-n.false small
     ] in
     (omega arith, sym on ∙ c.loop-i.invariant.1)
