@@ -4,7 +4,6 @@ use mathlib.Core.List.{List}
 use Prim.Native.Nat.{ℕ, ◌+◌, ◌-◌, ◌≤◌, ◌<◌}
 use native.Mathlib.Omega.{arith}
 use lib.ListN.{length, take, drop, length-take, length-drop}
-use borrow.Author.Tests.{ltb-true}
 use Rattle.ring_lines.specs.Pieces.{Kept, taken_from}
 use Rattle.ring_lines.proofs.Taking.{taken_within, taken_some}
 use Rattle.ring.proofs.take_piece.Goals as goal
@@ -20,19 +19,19 @@ advance piece at kept taken h e =
     (omega arith, omega arith)
 
 pub overflow_add-at : goal.overflow_add-at
-overflow_add-at c =
-    let h = ltb-true _ _ c.if-at-piece.true in
+overflow_add-at g c =
+    let h = c.if-at-piece.true in
     let a = advance c.args.piece.now c.loop-more.at _ _ h c.answer_piece-progress.ensures.takes in
     omega arith
 
 pub loop-more-smaller : goal.loop-more-smaller
-loop-more-smaller c =
-    let h = ltb-true _ _ c.if-at-piece.true in
+loop-more-smaller g c =
+    let h = c.if-at-piece.true in
     let a = advance c.args.piece.now c.loop-more.at _ _ h c.answer_piece-progress.ensures.takes in
     omega arith
 
 pub loop-more-preserved : goal.loop-more-preserved
-loop-more-preserved c =
-    let h = ltb-true _ _ c.if-at-piece.true in
+loop-more-preserved g c =
+    let h = c.if-at-piece.true in
     let a = advance c.args.piece.now c.loop-more.at _ _ h c.answer_piece-progress.ensures.takes in
     a.0

@@ -4,7 +4,7 @@ use lib.ListN.{length}
 use Rattle.ring.proofs.take_piece.Given as goal
 
 abbrev pub invariant-loop-more : goal.invariant-loop-more
-invariant-loop-more l = l.at ≤ length l.piece
+invariant-loop-more g l = l.at ≤ length l.piece
 
 abbrev pub decreases-loop-more : goal.decreases-loop-more
-decreases-loop-more l = length l.piece - l.at
+decreases-loop-more g l = length l.piece - l.at
