@@ -1,6 +1,7 @@
 // What a palette is derived from, and what derivation and back-off refuse: numbers 1, 3, 9, 11 and 12.
 // Its cases are in `palette_cases`.
 #![tactic(auto)]
+
 ghost use Rattle.std.specs.Prelude.{◌≡◌};
 ghost use Rattle.limits.specs.Answers.{value};
 ghost use Rattle.limits.specs.Refusals.{check_said};
