@@ -2,11 +2,11 @@
 use mathlib.Core.Path.{◌≡◌, sym, ◌∙◌}
 use mathlib.Core.Bool.{true, false}
 use mathlib.Core.List.{List}
-use mathlib.Core.Logic.{⊎_elim}
+use mathlib.Core.Logic.{◌⊎◌, inl, inr}
+use Prim.Native.Nat.{◌≤◌, ◌<◌}
 use native.Mathlib.Omega.{arith}
-use lib.Dec.{leb-suc-suc}
 use lib.Ieee.{Float}
-use borrow.Author.Tests.{le-ltb, le-leb, lt-leb}
+use borrow.Author.Tests.{le-leb, lt-leb}
 use Rattle.limits.specs.Answers.{Said, value, refused}
 use Rattle.limits.specs.Taken.{hue_count_taken, chroma_taken, directions_taken}
 use Rattle.palette_checks.specs.declared.Design.{Design}
@@ -45,42 +45,44 @@ module _ (d : Design) (c : Float) (cs ss : List Float) where
           unfolding design_checked
           fine f = rw (one, two, three, four, f)
 
+-- the test of both levels
+module _ (d : Design) where
+  both_low : d.dark < 169 → d.light < 169 → levels_taken d ≡ true
+  unfolding levels_taken
+  both_low p q =
+      let dark : d.dark ≤ 168 = omega arith in
+      let light : d.light ≤ 168 = omega arith in
+      rw (le-leb d.dark 168 dark, le-leb d.light 168 light)
+
+  one_high : (d.dark < 169 × 169 ≤ d.light) ⊎ (169 ≤ d.dark) → levels_taken d ≡ false
+  unfolding levels_taken
+  one_high (inl t) =
+      let dark : d.dark ≤ 168 = omega arith in
+      rw (le-leb d.dark 168 dark, lt-leb d.light 168 t.1)
+  one_high (inr h) = rw (lt-leb d.dark 168 h)
+
 pub returns-then-not-takes_hue_count : goal.returns-then-not-takes_hue_count
 returns-then-not-takes_hue_count c = first _ _ _ _ (sym c.takes_hue_count.ensures ∙ c.if-not-takes_hue_count.true)
 
-one : (c : goal.Else-not-takes_hue_count) → hue_count_taken c.args.design.k ≡ true
-one c = sym c.takes_hue_count.ensures ∙ c.if-not-takes_hue_count.false
-
 pub returns-then-not-takes_chroma : goal.returns-then-not-takes_chroma
-returns-then-not-takes_chroma c = second _ _ _ _ (one c.before.before) (sym c.takes_chroma.ensures ∙ c.if-not-takes_chroma.true)
-
-two : (c : goal.Else-not-takes_chroma) → chroma_taken c.args.chroma ≡ true
-two c = sym c.takes_chroma.ensures ∙ c.if-not-takes_chroma.false
+returns-then-not-takes_chroma c = second _ _ _ _ (sym c.takes_hue_count.ensures ∙ c.if-not-takes_hue_count.false) (sym c.takes_chroma.ensures ∙ c.if-not-takes_chroma.true)
 
 pub returns-then-not-takes_directions : goal.returns-then-not-takes_directions
-returns-then-not-takes_directions c =
-    let e = c.before.before in
-    third _ _ _ _ (one e.before.before) (two e) (sym c.takes_directions.ensures ∙ c.if-not-takes_directions.true)
+returns-then-not-takes_directions c = third _ _ _ _ (sym c.takes_hue_count.ensures ∙ c.if-not-takes_hue_count.false) (sym c.takes_chroma.ensures ∙ c.if-not-takes_chroma.false) (sym c.takes_directions.ensures ∙ c.if-not-takes_directions.true)
 
 pub returns-then-not-design : goal.returns-then-not-design
 returns-then-not-design c =
-    let f = c.before.before in
-    let e = f.before.before in
-    fourth _ _ _ _ (one e.before.before) (two e) (let it : directions_taken f.args.cos.now f.args.sin.now ≡ true = sym f.takes_directions.ensures ∙ f.if-not-takes_directions.false in it) (sym (let it : c.before.if-design-lt-LEVELS.if5 ≡ levels_taken c.before.args.design = let d = c.before.args.design in ⊎_elim (λ t. rw (le-leb d.dark 168 (omega arith)) (t.1 ∙ leb-suc-suc d.light 168)) (λ t. rw (lt-leb d.dark 168 t.0.left) (t.1 ∙ le-ltb d.dark 169 t.0.left)) c.before.if-design-lt-LEVELS.branch in it) ∙ c.if-not-design.true)
-
-four : (c : goal.Else-not-design) → levels_taken c.args.design ≡ true
-four c = sym (let it : c.before.if-design-lt-LEVELS.if5 ≡ levels_taken c.before.args.design = let d = c.before.args.design in ⊎_elim (λ t. rw (le-leb d.dark 168 (omega arith)) (t.1 ∙ leb-suc-suc d.light 168)) (λ t. rw (lt-leb d.dark 168 t.0.left) (t.1 ∙ le-ltb d.dark 169 t.0.left)) c.before.if-design-lt-LEVELS.branch in it) ∙ c.if-not-design.false
+    fourth _ _ _ _ (sym c.takes_hue_count.ensures ∙ c.if-not-takes_hue_count.false) (sym c.takes_chroma.ensures ∙ c.if-not-takes_chroma.false)
+    (sym c.takes_directions.ensures ∙ c.if-not-takes_directions.false) (one_high c.args.design c.if-not-design.either)
 
 pub returns-then-not-takes_hues : goal.returns-then-not-takes_hues
 returns-then-not-takes_hues c =
-    let g = c.before.before in
-    let f = g.before.before in
-    let e = f.before.before in
-    fifth _ _ _ _ (one e.before.before) (two e) (let it : directions_taken f.args.cos.now f.args.sin.now ≡ true = sym f.takes_directions.ensures ∙ f.if-not-takes_directions.false in it) (four g) (sym c.takes_hues.ensures ∙ c.if-not-takes_hues.true)
+    let f = c.if-not-design.false in
+    fifth _ _ _ _ (sym c.takes_hue_count.ensures ∙ c.if-not-takes_hue_count.false) (sym c.takes_chroma.ensures ∙ c.if-not-takes_chroma.false)
+    (sym c.takes_directions.ensures ∙ c.if-not-takes_directions.false) (both_low c.args.design f.0 f.1) (sym c.takes_hues.ensures ∙ c.if-not-takes_hues.true)
 
 pub returns : goal.returns
 returns c =
-    let g = c.before.before in
-    let f = g.before.before in
-    let e = f.before.before in
-    fine _ _ _ _ (one e.before.before) (two e) (let it : directions_taken f.args.cos.now f.args.sin.now ≡ true = sym f.takes_directions.ensures ∙ f.if-not-takes_directions.false in it) (four g) (sym c.takes_hues.ensures ∙ c.if-not-takes_hues.false)
+    let f = c.if-not-design.false in
+    fine _ _ _ _ (sym c.takes_hue_count.ensures ∙ c.if-not-takes_hue_count.false) (sym c.takes_chroma.ensures ∙ c.if-not-takes_chroma.false)
+    (sym c.takes_directions.ensures ∙ c.if-not-takes_directions.false) (both_low c.args.design f.0 f.1) (sym c.takes_hues.ensures ∙ c.if-not-takes_hues.false)
