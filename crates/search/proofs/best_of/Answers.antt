@@ -6,16 +6,11 @@ use Rattle.search.proofs.Going.{pair_says_lem, given_round}
 use Rattle.search.proofs.best_of.Goals as goal
 
 pub step_of-requires : goal.step_of-requires
-step_of-requires c = let s = c.before.before.before.before in (sound s.args.job s.requires.sound).hue_count_taken_lem
+step_of-requires c = (sound c.args.job c.requires.sound).hue_count_taken_lem
 
 pub returns : goal.returns
 returns c =
-    let t = c.before.before in
-    let f = t.before.before in
-    let s = f.before.before.before.before.before.before in
-    let a = s.args in
-    let e = pair_says_lem a.job a.table.now (length a.work.now) a.dark a.light f.step_of.result f.floor_of.result s.requires f.step_of.ensures f.floor_of.ensures in
-    let given = t.best_for_levels.ensures in
-    (given_round a.job a.table.now (length a.work.now) a.dark a.light s.requires e given.0, λ w again. given.1 w (e ∙ again))
-
--- ASKED ['gives', 'untouched']
+    let a = c.args in
+    let e = pair_says_lem a.job a.table.now (length a.work.now) a.dark a.light c.step_of.result c.floor_of.result c.requires c.step_of.ensures c.floor_of.ensures in
+    let given = c.best_for_levels.ensures in
+    record { gives = given_round a.job a.table.now (length a.work.now) a.dark a.light c.requires e given.gives; untouched = λ w again. given.untouched w (e ∙ again) }

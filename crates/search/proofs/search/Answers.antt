@@ -34,43 +34,33 @@ module _ (s : Settings) (table : List Float) (room : ℕ) where
 pub returns-then-work-lt-HUES : goal.returns-then-work-lt-HUES
 unfolding search_says work_needed
 returns-then-work-lt-HUES c =
-    let k = c.before.before.before.before in
-    let a = k.args in
+    let a = c.args in
     let room = length a.work.now in
-    let e = start_fine a.settings a.table.now k.check_start-checked.result k.check_start-checked.ensures (checked_room a.settings a.table.now room) c.in-Fine.is ∙ too_little a.settings a.table.now room c.if-work-lt-HUES.true in
-    (refusing e c.refuse-then-work-lt-HUES.ensures, λ w again. refl)
-
--- ASKED ['gives', 'untouched']
+    let e = start_fine a.settings a.table.now c.check_start-checked.result c.check_start-checked.ensures (checked_room a.settings a.table.now room) c.in-Fine.is ∙ too_little a.settings a.table.now room c.if-work-lt-HUES.true in
+    record { gives = refusing e c.refuse-then-work-lt-HUES.ensures; untouched = λ w again. refl }
 
 pub overflow_mul-levels : goal.overflow_mul-levels
 unfolding levels_in
 overflow_mul-levels c =
-    let k = c.before.before.before.before.before in
-    let a = k.args in
-    let few = (start_levels a.settings a.table.now k.check_start-checked.result k.check_start-checked.ensures c.in-Fine.is).few_levels in
+    let a = c.args in
+    let few = (start_levels a.settings a.table.now c.check_start-checked.result c.check_start-checked.ensures c.in-Fine.is).few_levels in
     let most = square (length a.table.now / 720) few in
     omega arith
 
 pub returns-in-Wrong : goal.returns-in-Wrong
 unfolding search_says
 returns-in-Wrong c =
-    let k = c.before.before.before.before in
-    let a = k.args in
-    let e = start_wrong a.settings a.table.now k.check_start-checked.result k.check_start-checked.ensures (checked_room a.settings a.table.now (length a.work.now)) c.in-Wrong.why c.in-Wrong.is in
-    (refusing e c.refuse.ensures, λ w again. refl)
-
--- ASKED ['gives', 'untouched']
+    let a = c.args in
+    let e = start_wrong a.settings a.table.now c.check_start-checked.result c.check_start-checked.ensures (checked_room a.settings a.table.now (length a.work.now)) c.in-Wrong.why c.in-Wrong.is in
+    record { gives = refusing e c.refuse.ensures; untouched = λ w again. refl }
 
 pub returns-else-work-lt-HUES : goal.returns-else-work-lt-HUES
 unfolding search_says levels_in work_needed
 returns-else-work-lt-HUES c =
-    let k = c.before.before.before.before.before.before.before.before.before in
-    let a = k.args in
+    let a = c.args in
     let table = a.table.now in
     let room = length a.work.now in
     let n = levels_in table in
-    let e = start_fine a.settings table k.check_start-checked.result k.check_start-checked.ensures (checked_room a.settings table room) c.in-Fine.is ∙ enough a.settings table room c.if-work-lt-HUES.false in
+    let e = start_fine a.settings table c.check_start-checked.result c.check_start-checked.ensures (checked_room a.settings table room) c.in-Fine.is ∙ enough a.settings table room c.if-work-lt-HUES.false in
     let last = c.take_steps.ensures ∙ ap (λ (j : Job). steps_from (n * n) j table room) c.begin.ensures in
-    (accepting a.job last e c.accept.ensures, λ w again. said_twice e again)
-
--- ASKED ['gives', 'untouched']
+    record { gives = accepting a.job last e c.accept.ensures; untouched = λ w again. said_twice e again }

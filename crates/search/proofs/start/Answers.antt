@@ -9,15 +9,13 @@ use Rattle.search.proofs.start.Goals as goal
 pub returns-in-Wrong : goal.returns-in-Wrong
 unfolding start_says
 returns-in-Wrong c =
-    let k = c.before.before.before.before in
-    let a = k.args in
-    let e = start_wrong a.settings a.table.now k.check_start-checked.result k.check_start-checked.ensures (value (begun a.settings (levels_in a.table.now))) c.in-Wrong.why c.in-Wrong.is in
+    let a = c.args in
+    let e = start_wrong a.settings a.table.now c.check_start-checked.result c.check_start-checked.ensures (value (begun a.settings (levels_in a.table.now))) c.in-Wrong.why c.in-Wrong.is in
     refusing e c.refuse.ensures
 
 pub returns-in-Fine : goal.returns-in-Fine
 unfolding start_says levels_in
 returns-in-Fine c =
-    let k = c.before.before.before.before in
-    let a = k.args in
-    let e = start_fine a.settings a.table.now k.check_start-checked.result k.check_start-checked.ensures (value (begun a.settings (levels_in a.table.now))) c.in-Fine.is in
+    let a = c.args in
+    let e = start_fine a.settings a.table.now c.check_start-checked.result c.check_start-checked.ensures (value (begun a.settings (levels_in a.table.now))) c.in-Fine.is in
     accepting a.job c.begin.ensures e c.accept.ensures

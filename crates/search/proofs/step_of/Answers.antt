@@ -25,12 +25,8 @@ module _ (r : Stepping) (k : ℕ) (taken : hue_count_taken k ≡ true) (says : s
 
 pub returns-in-Is : goal.returns-in-Is
 returns-in-Is c =
-    let f = c.before.before.before in
-    let s = f.before in
-    is_step f.step_for-stepping.result s.args.k s.requires f.step_for-stepping.ensures c.in-Is.step c.in-Is.is
+    is_step c.step_for-stepping.result c.args.k c.requires c.step_for-stepping.ensures c.in-Is.step c.in-Is.is
 
 pub returns-in-Refused : goal.returns-in-Refused
 returns-in-Refused c =
-    let f = c.before.before in
-    let s = f.before in
-    declined f.step_for-stepping.result s.args.k s.requires f.step_for-stepping.ensures c.in-Refused.field-0 c.in-Refused.is
+    declined c.step_for-stepping.result c.args.k c.requires c.step_for-stepping.ensures c.in-Refused.field-0 c.in-Refused.is

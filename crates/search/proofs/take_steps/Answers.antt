@@ -26,25 +26,22 @@ loop-i-init c =
 
 pub loop-i-preserved : goal.loop-i-preserved
 loop-i-preserved c =
-    let r = c.before.before.before in
-    let l = c.before.before.before.before.before.before in
-    let a = l.args in
+    let a = c.args in
     let inside = c.loop-i-test.true in
-    let i = l.loop-i.i in
-    let last = l.loop-i.last in
-    let kept = l.loop-i.invariant.1 in
+    let i = c.loop-i.i in
+    let last = c.loop-i.last in
+    let kept = c.loop-i.invariant.1 in
     let fewer : a.count - i ≡ suc (a.count - (i + 1)) = omega arith in
-    let next = r.step-next.ensures.0.job_is ∙ ap (λ (room : ℕ). job_after last (step_says last a.table.now room)) kept in
-    (omega arith, r.step-next.auto.1.0 ∙ kept, one_taken (a.count - i) (a.count - (i + 1)) last r.step-next.result.job a.table.now (length a.work.now) fewer next ∙ l.loop-i.invariant.2)
+    let next = c.step-next.ensures.gives.job_is ∙ ap (λ (room : ℕ). job_after last (step_says last a.table.now room)) kept in
+    (omega arith, c.step-next.auto.work ∙ kept, one_taken (a.count - i) (a.count - (i + 1)) last c.step-next.result.job a.table.now (length a.work.now) fewer next ∙ c.loop-i.invariant.2)
 
 pub shape_of-work : goal.shape_of-work
 shape_of-work c = c.loop-i.invariant.1
 
 pub returns : goal.returns
 returns c =
-    let l = c.before in
-    let a = l.args in
+    let a = c.args in
     let end = c.loop-i-test.false in
-    let some = l.loop-i.invariant.0 in
-    let none : a.count - l.loop-i.i ≡ 0 = omega arith in
-    all_taken (a.count - l.loop-i.i) l.loop-i.last a.table.now (length a.work.now) none ∙ l.loop-i.invariant.2
+    let some = c.loop-i.invariant.0 in
+    let none : a.count - c.loop-i.i ≡ 0 = omega arith in
+    all_taken (a.count - c.loop-i.i) c.loop-i.last a.table.now (length a.work.now) none ∙ c.loop-i.invariant.2
