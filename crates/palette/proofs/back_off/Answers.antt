@@ -14,13 +14,12 @@ lower_from-requires c =
 pub returns-in-Wrong : goal.returns-in-Wrong
 unfolding back_off_says
 returns-in-Wrong c =
-    let k = c.before.before.before.before in
-    let a = k.args in
-    let given = c.checked-1.given in
+    let a = c.args in
     let d = a.design in
     let cs = a.cos.now in
     let ss = a.sin.now in
-    let e = rejected d a.chroma cs ss k.check_design-checked.result k.check_design-checked.ensures (value (end_of (judge_at d cs ss) a.chroma)) given.0.0 given.1 in
+    let k = c.check_design-checked in
+    let e = rejected d a.chroma cs ss k.result k.ensures (value (end_of (judge_at d cs ss) a.chroma)) c.in-Wrong.why c.in-Wrong.is in
     (sym e, c.no_colors.ensures ∙ sym (ap (colors_after d cs ss) e))
 
 pub returns-in-Fine : goal.returns-in-Fine

@@ -1,8 +1,7 @@
 -- `palette::color_at` meets its contract: the first k places are dark, the others light. Assumes nothing.
 use mathlib.Core.Path.{sym, ◌∙◌}
-use Prim.Native.Nat.{◌-◌, ◌≤◌}
+use Prim.Native.Nat.{◌-◌}
 use native.Mathlib.Omega.{arith}
-use lib.ListN.{length, length-map}
 use Rattle.palette.proofs.Ready.{few_hues, levels_in_range, hue_in, long}
 use Rattle.palette.proofs.Colors.{dark_at_lem, light_at_lem}
 use Rattle.palette.proofs.color_at.Goals as goal
@@ -21,23 +20,20 @@ color_of-requires c =
 
 pub returns-then-i-k : goal.returns-then-i-k
 returns-then-i-k c =
-    let t = c.before in
-    let s = t.before.before.before.before in
-    let a = s.args in
-    c.color_of.ensures ∙ sym (dark_at_lem a.design a.chroma a.cos.now a.sin.now (let it : s.args.design.k ≤ length s.args.design.hues = let f = few_hues s.requires.0 in let e = sym (length-map s.args.design.hues (λ v. v)) ∙ s.well_formed.0.1.1.1.1.1.0.1.0.1 in omega arith in it) a.i t.if-i-k.true)
+    let a = c.args in
+    let few = few_hues c.requires.0 in
+    c.color_of.ensures ∙ sym (dark_at_lem a.design a.chroma a.cos.now a.sin.now (omega arith) a.i c.if-i-k.true)
 
 pub bounds-hues-i-2 : goal.bounds-hues-i-2
 bounds-hues-i-2 c = let f = few_hues c.requires.0 in omega arith
 
 pub color_of-requires-2 : goal.color_of-requires-2
 color_of-requires-2 c =
-    let s = c.before.before.before.before in
-    let l = levels_in_range s.requires.0 in
-    (omega arith, hue_in s.requires.0 (s.args.i - s.args.design.k) (omega arith), (long s.requires.0).0, (long s.requires.0).1)
+    let l = levels_in_range c.requires.0 in
+    (omega arith, hue_in c.requires.0 (c.args.i - c.args.design.k) (omega arith), (long c.requires.0).0, (long c.requires.0).1)
 
 pub returns : goal.returns
 returns c =
-    let e = c.before in
-    let s = e.before.before.before.before in
-    let a = s.args in
-    c.color_of-2.ensures ∙ sym (light_at_lem a.design a.chroma a.cos.now a.sin.now (let it : s.args.design.k ≤ length s.args.design.hues = let f = few_hues s.requires.0 in let e = sym (length-map s.args.design.hues (λ v. v)) ∙ s.well_formed.0.1.1.1.1.1.0.1.0.1 in omega arith in it) a.i e.if-i-k.false s.requires.1)
+    let a = c.args in
+    let few = few_hues c.requires.0 in
+    c.color_of-2.ensures ∙ sym (light_at_lem a.design a.chroma a.cos.now a.sin.now (omega arith) a.i c.if-i-k.false c.requires.1)

@@ -4,7 +4,6 @@ use mathlib.Core.List.{List}
 use Prim.Native.Nat.{ℕ}
 use lib.Ieee.{Float, nan}
 use lib.ListN.{get_or}
-use borrow.Author.Rules.{rules}
 use Rattle.clipping.specs.declared.Clipped.{Clipped}
 use Rattle.clipping.specs.Clip.{clipped_of}
 use Rattle.gamut.specs.Gamut.{level_of}
@@ -15,14 +14,6 @@ use Rattle.palette.proofs.color_of.Goals as goal
 clipped : (n : ℕ) (c : Float) (cs ss : List Float) (j : ℕ) (l : Float) (r : Clipped) → l ≡ level_of n → r ≡ clipped_of l c (get_or cs j nan) (get_or ss j nan) → r.color ≡ shown (level_of n) c cs ss j
 unfolding shown
 clipped n c cs ss j l r e f = rw (f, e)
-
-shared_slice_read_lch_to_srgb8_gamut_clipped :
-    goal.UNKNOWN-Need-shared-slice-read-lch-to-srgb8-gamut-clipped
-shared_slice_read_lch_to_srgb8_gamut_clipped c = search rules
-
-shared_slice_read_lch_to_srgb8_gamut_clipped_2 :
-    goal.UNKNOWN-Need-shared-slice-read-lch-to-srgb8-gamut-clipped-2
-shared_slice_read_lch_to_srgb8_gamut_clipped_2 c = search rules
 
 pub returns : goal.returns
 returns c =

@@ -1,15 +1,14 @@
 -- `palette::colors_of` meets its contract. The invariant: the colours before place i are written, and those from it on are black. Assumes nothing.
-use mathlib.Core.Path.{sym, ap, ◌∙◌}
+use mathlib.Core.Path.{ap, ◌∙◌}
 use mathlib.Core.List.{List}
-use Prim.Native.Nat.{ℕ, ◌+◌, ◌-◌, ◌≤◌, ◌<◌}
+use Prim.Native.Nat.{ℕ, ◌+◌, ◌≤◌, ◌<◌}
 use native.Mathlib.Nat.{ne_of_lt}
 use native.Mathlib.Omega.{arith}
-use lib.ListN.{length, get_or, length-map, length-set, length-replicate}
+use lib.ListN.{length, get_or, length-set, length-replicate}
 use lib.Seq.{get_or-set_same, get_or-set_other}
 use borrow.Author.Count.{below_none, below_more}
 use Rattle.srgb.specs.declared.Srgb8.{Srgb8}
 use Rattle.palette.specs.Derivation.{black}
-use Rattle.palette.specs.Inner.{color_at}
 use Rattle.palette.proofs.Ready.{few_hues}
 use Rattle.palette.proofs.Colors.{all_black, colors_are}
 use Rattle.palette.proofs.colors_of.Goals as goal
@@ -55,7 +54,6 @@ returns c =
     let l = c.before in
     let s = l.before.before.before.before.before in
     let f = few_hues s.requires in
-    let long = sym (length-map s.args.design.hues (λ v. v)) ∙ s.well_formed.0.1.1.1.1.1.0.1.0.1 in
     colors_are s.args.design s.args.chroma s.args.cos.now s.args.sin.now (omega arith) f l.loop-i.colors l.loop-i.invariant.1
     (λ (p : ℕ) (g : p < s.args.design.k + s.args.design.k). l.loop-i.invariant.2 p (omega arith))
     (λ (p : ℕ) (g : s.args.design.k + s.args.design.k ≤ p). l.loop-i.invariant.3 p (omega arith))

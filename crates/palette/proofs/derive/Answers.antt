@@ -14,10 +14,9 @@ colors_of-requires c =
 pub returns-in-Wrong : goal.returns-in-Wrong
 unfolding derivation_says
 returns-in-Wrong c =
-    let k = c.before.before.before.before in
-    let a = k.args in
-    let given = c.checked-1.given in
-    let e = rejected a.design a.chroma a.cos.now a.sin.now k.check_design-checked.result k.check_design-checked.ensures (value (colors_of a.design a.chroma a.cos.now a.sin.now)) given.0.0 given.1 in
+    let a = c.args in
+    let k = c.check_design-checked in
+    let e = rejected a.design a.chroma a.cos.now a.sin.now k.result k.ensures (value (colors_of a.design a.chroma a.cos.now a.sin.now)) c.in-Wrong.why c.in-Wrong.is in
     (sym e, c.no_colors.ensures ∙ sym (ap colors_beside e))
 
 pub returns-in-Fine : goal.returns-in-Fine

@@ -11,7 +11,7 @@ use Rattle.palette_checks.specs.declared.Design.{Design}
 use Rattle.metrics.specs.declared.Metrics.{Metrics}
 use Rattle.palette.specs.Derivation.{colors_of}
 use Rattle.metrics.specs.Metrics.{metrics_of}
-use Rattle.palette.specs.Validation.{Judgement, passed, first_of, findings, judged, verdict_said, finding_number}
+use Rattle.palette.specs.Validation.{Judgement, passed, finding, first_of, findings, judged, verdict_said, finding_number}
 use Rattle.palette.specs.BackOff.{lower, tried, Ending, lastly, passes, end_of, judge_at, colors_after}
 use Rattle.palette.proofs.Ready.{few_hues}
 use Rattle.palette.proofs.Lowering.{taken_low, lowered, untried, passing, lowering}
@@ -38,64 +38,39 @@ measure-requires c = let r = c.requires.0 in record { hue_count = r.hue_count; d
 pub first_finding-verdict-requires : goal.first_finding-verdict-requires
 first_finding-verdict-requires c = few_hues c.requires.0
 
--- the chroma at hand is tried
-on : (c : goal.In-loop-last) → tried c.loop-last.c ≡ true
-on c = sym c.tried.ensures ∙ c.loop-last-test.true
-
--- what is found of it
-abbrev in-loop : goal.After-first_finding-verdict → goal.In-loop-last
-in-loop f = f.before.before.before
-
-abbrev loop-of : goal.After-first_finding-verdict → goal.At-loop-last
-loop-of f = (in-loop f).before.before
-
-judged-at : (f : goal.After-first_finding-verdict)
-    → judge_at (loop-of f).before.before.before.args.design (loop-of f).before.before.before.args.cos.now (loop-of f).before.before.before.args.sin.now (loop-of f).loop.c ≡ verdict_said f.first_finding-verdict.result
-judged-at f =
-    let a = (loop-of f).before.before.before.args in
-    let m = f.before in
-    judge_is a.design a.cos.now a.sin.now (loop-of f).loop.c m.colors_of-colors.result m.measure.result (verdict_said f.first_finding-verdict.result)
-    m.colors_of-colors.ensures m.measure.ensures f.first_finding-verdict.ensures
-
--- where it passes, back-off ends there
-passed-at : (l : goal.At-loop-last) → tried l.loop-last.c ≡ true → judge_at l.args.design l.args.cos.now l.args.sin.now l.loop-last.c ≡ passed
-    → passes l.loop-last.c ≡ end_of (judge_at l.args.design l.args.cos.now l.args.sin.now) l.args.chroma
-passed-at l t p =
-    let a = l.args in
-    let i = l.loop-last.invariant.1 in
-    sym (passing (judge_at a.design a.cos.now a.sin.now) l.loop-last.c i.0 l.loop-last.invariant.0 t p) ∙ i.1.1
-
 pub returns-in-Passed : goal.returns-in-Passed
 returns-in-Passed c =
-    let f = c.before.before in
-    let l = loop-of f in
-    let a = l.before.before.before.args in
-    let e = passed-at l (on (in-loop f)) (judged-at f ∙ ap verdict_said c.in-Passed.is) in
-    (ap value e, f.colors_of-colors.ensures ∙ ap (λ (x : Ending). colors_after a.design a.cos.now a.sin.now (value x)) e)
+    let a = c.args in
+    let i = c.loop-last.invariant.1 in
+    let t : tried c.loop-last.c ≡ true = sym c.tried.ensures ∙ c.loop-last-test.true in
+    let found : judge_at a.design a.cos.now a.sin.now c.loop-last.c ≡ passed =
+    judge_is a.design a.cos.now a.sin.now c.loop-last.c c.colors_of-colors.result c.measure.result (verdict_said c.first_finding-verdict.result)
+    c.colors_of-colors.ensures c.measure.ensures c.first_finding-verdict.ensures
+    ∙ ap verdict_said c.in-Passed.is in
+    let e : passes c.loop-last.c ≡ end_of (judge_at a.design a.cos.now a.sin.now) a.chroma = sym (passing (judge_at a.design a.cos.now a.sin.now) c.loop-last.c i.0 c.loop-last.invariant.0 t found) ∙ i.1.1 in
+    (ap value e, c.colors_of-colors.ensures ∙ ap (λ (x : Ending). colors_after a.design a.cos.now a.sin.now (value x)) e)
 
 pub loop-last-smaller : goal.loop-last-smaller
 unfolding lower round of_bits
-loop-last-smaller c =
-    let f = c.before.before.before in
-    let l = loop-of f in
-    (lowered l.loop.c l.loop.inv.0 (on (in-loop f))).1
+loop-last-smaller c = (lowered c.loop-last.c c.loop-last.invariant.0 (sym c.tried.ensures ∙ c.loop-last-test.true)).1
 
 pub loop-last-preserved : goal.loop-last-preserved
 unfolding lower round of_bits
 loop-last-preserved c =
-    let f = c.before.before.before in
-    let l = loop-of f in
-    let a = l.before.before.before.args in
-    let known = c.verdict-1.given in
-    let t = on (in-loop f) in
-    let found = judged-at f ∙ ap verdict_said known.1 in
-    let n = finding_number known.0.0 in
-    ((lowered l.loop.c l.loop.inv.0 t).0, (n, (refl, sym (lowering (judge_at a.design a.cos.now a.sin.now) l.loop.c l.loop.inv.1.0 n l.loop.inv.0 t found) ∙ l.loop.inv.1.1.1)))
+    let a = c.args in
+    let i = c.loop-last.invariant.1 in
+    let low = c.loop-last.invariant.0 in
+    let t : tried c.loop-last.c ≡ true = sym c.tried.ensures ∙ c.loop-last-test.true in
+    let n = finding_number c.in-Found.f in
+    let found : judge_at a.design a.cos.now a.sin.now c.loop-last.c ≡ finding n =
+    judge_is a.design a.cos.now a.sin.now c.loop-last.c c.colors_of-colors.result c.measure.result (verdict_said c.first_finding-verdict.result)
+    c.colors_of-colors.ensures c.measure.ensures c.first_finding-verdict.ensures
+    ∙ ap verdict_said c.in-Found.is in
+    ((lowered c.loop-last.c low t).0, (n, (refl, sym (lowering (judge_at a.design a.cos.now a.sin.now) c.loop-last.c i.0 n low t found) ∙ i.1.1)))
 
 pub returns : goal.returns
 returns c =
-    let l = c.before.before.before in
-    let a = l.args in
-    let i = l.loop-last.invariant.1 in
-    let e : lastly i.0 ≡ end_of (judge_at a.design a.cos.now a.sin.now) a.chroma = sym (untried (judge_at a.design a.cos.now a.sin.now) l.loop-last.c i.0 (sym c.tried.ensures ∙ c.loop-last-test.false)) ∙ i.1.1 in
+    let a = c.args in
+    let i = c.loop-last.invariant.1 in
+    let e : lastly i.0 ≡ end_of (judge_at a.design a.cos.now a.sin.now) a.chroma = sym (untried (judge_at a.design a.cos.now a.sin.now) c.loop-last.c i.0 (sym c.tried.ensures ∙ c.loop-last-test.false)) ∙ i.1.1 in
     (i.1.0 ∙ ap value e, c.no_colors.ensures ∙ ap (λ (x : Ending). colors_after a.design a.cos.now a.sin.now (value x)) e)

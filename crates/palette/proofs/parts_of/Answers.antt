@@ -1,6 +1,6 @@
 -- `palette::parts_of` meets its contract. The invariant: both arrays are filled below i. Assumes nothing.
 use mathlib.Core.Path.{refl, ap, ◌∙◌}
-use Prim.Native.Nat.{ℕ, ◌-◌, ◌≤◌, ◌<◌}
+use Prim.Native.Nat.{ℕ, ◌≤◌, ◌<◌}
 use native.Mathlib.Omega.{arith}
 use lib.ListN.{length, length-set}
 use borrow.Author.Count.{below_none}
@@ -16,7 +16,7 @@ loop-i-init c = (omega arith, (refl, refl), (below_none _, below_none _))
 pub loop-i-preserved : goal.loop-i-preserved
 loop-i-preserved c =
     let l = c.before.before.before.before in
-    let colors = l.args.t2 in
+    let colors = l.args.colors in
     let i = l.loop-i.i in
     let lab = c.srgb8_to_lab-lab in
     let n = l.loop-i.invariant.1 in
@@ -37,5 +37,5 @@ returns c =
     let long = l.loop-i.invariant.1 in
     let g = l.loop-i.invariant.2 in
     let h = c.loop-i-test.false in
-    let wide : s.args.n ≤ length s.args.t2 = omega arith in
+    let wide : s.args.n ≤ length s.args.colors = omega arith in
     (record { filled = λ (p : ℕ) (u : p < s.args.n). g.0 p (omega arith); long = omega arith; wide = wide }, record { filled = λ (p : ℕ) (u : p < s.args.n). g.1 p (omega arith); long = omega arith; wide = wide })

@@ -2,7 +2,7 @@
 use mathlib.Core.Path.{◌≡◌, sym, ◌∙◌}
 use mathlib.Core.Bool.{true, false}
 use mathlib.Core.List.{List}
-use Prim.Native.Nat.{ℕ, ◌+◌, ◌≤◌}
+use Prim.Native.Nat.{ℕ, ◌+◌}
 use native.Mathlib.Omega.{arith}
 use lib.Ieee.{Float}
 use borrow.Author.Tests.{eq-eqb, ne_eqb}
@@ -39,43 +39,29 @@ module _ (k : ℕ) (colors : List Srgb8) (count : ℕ) (cs ss : List Float) wher
 
 pub returns-then-not-takes_hue_count : goal.returns-then-not-takes_hue_count
 returns-then-not-takes_hue_count c =
-    let s = c.before.before.before.before in
-    let a = s.args in
+    let a = c.args in
     first a.k a.colors a.count a.cos.now a.sin.now (sym c.takes_hue_count.ensures ∙ c.if-not-takes_hue_count.true)
-
-one : (c : goal.Else-not-takes_hue_count) → hue_count_taken c.args.k ≡ true
-one c = sym c.takes_hue_count.ensures ∙ c.if-not-takes_hue_count.false
 
 pub returns-then-not-takes_directions : goal.returns-then-not-takes_directions
 returns-then-not-takes_directions c =
-    let e = c.before.before in
-    let a = e.args in
-    second a.k a.colors a.count a.cos.now a.sin.now (one e) (sym c.takes_directions.ensures ∙ c.if-not-takes_directions.true)
-
-two : (c : goal.Else-not-takes_directions) → directions_taken c.args.cos.now c.args.sin.now ≡ true
-two c = sym c.takes_directions.ensures ∙ c.if-not-takes_directions.false
-
-few : (c : goal.Else-not-takes_directions) → c.args.k ≤ 16
-few c = (hue_count c.args.k (one c.before.before)).1
+    let a = c.args in
+    second a.k a.colors a.count a.cos.now a.sin.now (sym c.takes_hue_count.ensures ∙ c.if-not-takes_hue_count.false) (sym c.takes_directions.ensures ∙ c.if-not-takes_directions.true)
 
 pub overflow_add-k : goal.overflow_add-k
-overflow_add-k c = let h = few c in record { fits = omega arith }
+overflow_add-k c = let few = (hue_count c.args.k (sym c.takes_hue_count.ensures ∙ c.if-not-takes_hue_count.false)).1 in record { fits = omega arith }
 
 pub returns-then-count-k : goal.returns-then-count-k
 returns-then-count-k c =
-    let t = c.before in
-    let a = t.args in
-    third a.k a.colors a.count a.cos.now a.sin.now (one t.before.before) (two t) c.if-count-k.true
+    let a = c.args in
+    third a.k a.colors a.count a.cos.now a.sin.now (sym c.takes_hue_count.ensures ∙ c.if-not-takes_hue_count.false) (sym c.takes_directions.ensures ∙ c.if-not-takes_directions.false) c.if-count-k.true
 
 pub measure-metrics-requires : goal.measure-metrics-requires
-measure-metrics-requires c = let t = c.before in record { hue_count = one t.before.before; directions = two t }
+measure-metrics-requires c = record { hue_count = sym c.takes_hue_count.ensures ∙ c.if-not-takes_hue_count.false; directions = sym c.takes_directions.ensures ∙ c.if-not-takes_directions.false }
 
 pub first_finding-verdict-requires : goal.first_finding-verdict-requires
-first_finding-verdict-requires c = few c.before.before
+first_finding-verdict-requires c = (hue_count c.args.k (sym c.takes_hue_count.ensures ∙ c.if-not-takes_hue_count.false)).1
 
 pub returns : goal.returns
 returns c =
-    let m = c.before in
-    let t = m.before.before in
-    let a = t.args in
-    fine a.k a.colors a.count a.cos.now a.sin.now (one t.before.before) (two t) m.if-count-k.false m.measure-metrics.result (verdict_said c.first_finding-verdict.result) m.measure-metrics.ensures c.first_finding-verdict.ensures
+    let a = c.args in
+    fine a.k a.colors a.count a.cos.now a.sin.now (sym c.takes_hue_count.ensures ∙ c.if-not-takes_hue_count.false) (sym c.takes_directions.ensures ∙ c.if-not-takes_directions.false) c.if-count-k.false c.measure-metrics.result (verdict_said c.first_finding-verdict.result) c.measure-metrics.ensures c.first_finding-verdict.ensures
