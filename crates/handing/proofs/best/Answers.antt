@@ -7,9 +7,7 @@ pub returns : goal.returns
 returns c =
     let call = c.best_for_levels-chosen in
     let chosen = call.ensures in
-    let same = hands_same _ _ chosen.0.says in
+    let same = hands_same _ _ chosen.gives.says in
     let given = c.hand.ensures in
-    let gap = c.hand_gap.ensures ∙ gap_same _ chosen.0.says chosen.0.tightest_is in
-    ((given.0 ∙ same.0, (given.1.0 ∙ same.1.0, given.1.1 ∙ same.1.1)), (gap, chosen.1))
-
--- ASKED ['value', 'tightest_after', 'untouched']
+    let gap = c.hand_gap.ensures ∙ gap_same _ chosen.gives.says chosen.gives.tightest_is in
+    record { value = (given.0 ∙ same.0, (given.1.0 ∙ same.1.0, given.1.1 ∙ same.1.1)); tightest_after = gap; untouched = chosen.untouched }

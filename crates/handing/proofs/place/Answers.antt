@@ -28,26 +28,20 @@ pub returns-in-Placed : goal.returns-in-Placed
 returns-in-Placed c =
     let call = c.feasible-found in
     let found = call.ensures in
-    let e = said call.result.hues c.in-Placed.is found.0.says in
-    (placed_gives _ e, (gap_given _ e found.0.tightest_is, found.1))
-
--- ASKED ['value', 'tightest_after', 'untouched']
+    let e = said call.result.hues c.in-Placed.is found.gives.says in
+    record { value = placed_gives _ e; tightest_after = gap_given _ e found.gives.tightest_is; untouched = found.untouched }
 
 pub returns-in-Nowhere : goal.returns-in-Nowhere
 returns-in-Nowhere c =
     let call = c.feasible-found in
     let found = call.ensures in
-    let e = said call.result.hues c.in-Nowhere.is found.0.says in
-    (nowhere_gives _ e found.0.beside, (gap_given _ e found.0.tightest_is, found.1))
-
--- ASKED ['value', 'tightest_after', 'untouched']
+    let e = said call.result.hues c.in-Nowhere.is found.gives.says in
+    record { value = nowhere_gives _ e found.gives.beside; tightest_after = gap_given _ e found.gives.tightest_is; untouched = found.untouched }
 
 pub returns-in-Refused : goal.returns-in-Refused
 returns-in-Refused c =
     let call = c.feasible-found in
     let found = call.ensures in
-    let e = said call.result.hues c.in-Refused.is found.0.says in
+    let e = said call.result.hues c.in-Refused.is found.gives.says in
     let kept = refused_gives _ e in
-    ((c.number.ensures ∙ kept.0, kept.1), (gap_left _ _ e, found.1))
-
--- ASKED ['value', 'tightest_after', 'untouched']
+    record { value = (c.number.ensures ∙ kept.0, kept.1); tightest_after = gap_left _ _ e; untouched = found.untouched }

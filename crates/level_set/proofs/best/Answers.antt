@@ -27,7 +27,7 @@ returns-then-most c =
     let s = l.before.before.before.before.before in
     let a = s.args in
     let e = something a.k a.step a.table.now a.levels.now (length a.work.now) s.requires _ l.lower_all.ensures m.largest-most.result m.largest-most.ensures i.if-most.true in
-    given_round a.k a.step a.table.now a.levels.now (length a.work.now) s.requires _ l.lower_all.ensures e f.best_for_row.ensures.0
+    given_round a.k a.step a.table.now a.levels.now (length a.work.now) s.requires _ l.lower_all.ensures e f.best_for_row.ensures.gives
 
 pub returns : goal.returns
 unfolding of_bits of_int

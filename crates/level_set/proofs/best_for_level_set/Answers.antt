@@ -8,43 +8,23 @@ use Rattle.level_set.proofs.best_for_level_set.Goals as goal
 
 pub best-requires : goal.best-requires
 best-requires c =
-    let k = c.before.before.before in
-    let t = k.before in
-    let f = t.before.before.before in
-    let a = f.args in
-    taken a.k a.table.now a.levels.now (length a.work.now) f.step_for-stepping.result f.step_for-stepping.ensures t.in-Is.step t.in-Is.is k.check-checked.result k.check-checked.ensures c.in-Fine.is
+    let a = c.args in
+    taken a.k a.table.now a.levels.now (length a.work.now) c.step_for-stepping.result c.step_for-stepping.ensures c.in-Is.step c.in-Is.is c.check-checked.result c.check-checked.ensures c.in-Fine.is
 
 pub returns-in-Refused : goal.returns-in-Refused
 returns-in-Refused c =
-    let t = c.before in
-    let f = t.before.before.before in
-    let a = f.args in
-    let e = declined a.k a.table.now a.levels.now (length a.work.now) f.step_for-stepping.result f.step_for-stepping.ensures t.in-Refused.why t.in-Refused.is in
-    (subst (Gives 720 a.k c.refuse.result) (sym e) (c.refuse.ensures a.k), λ w again. refl)
-
--- ASKED ['gives', 'untouched']
+    let a = c.args in
+    let e = declined a.k a.table.now a.levels.now (length a.work.now) c.step_for-stepping.result c.step_for-stepping.ensures c.in-Refused.why c.in-Refused.is in
+    record { gives = subst (Gives 720 a.k c.refuse.result) (sym e) (c.refuse.ensures a.k); untouched = λ w again. refl }
 
 pub returns-in-Wrong : goal.returns-in-Wrong
 returns-in-Wrong c =
-    let r = c.before.before in
-    let k = r.before.before in
-    let t = k.before in
-    let f = t.before.before.before in
-    let a = f.args in
-    let e = refusing a.k a.table.now a.levels.now (length a.work.now) f.step_for-stepping.result f.step_for-stepping.ensures t.in-Is.step t.in-Is.is k.check-checked.result k.check-checked.ensures r.in-Wrong.why r.in-Wrong.is in
-    (subst (Gives 720 a.k c.refuse-in-Wrong.result) (sym e) (c.refuse-in-Wrong.ensures a.k), λ w again. refl)
-
--- ASKED ['gives', 'untouched']
+    let a = c.args in
+    let e = refusing a.k a.table.now a.levels.now (length a.work.now) c.step_for-stepping.result c.step_for-stepping.ensures c.in-Is.step c.in-Is.is c.check-checked.result c.check-checked.ensures c.in-Wrong.why c.in-Wrong.is in
+    record { gives = subst (Gives 720 a.k c.refuse-in-Wrong.result) (sym e) (c.refuse-in-Wrong.ensures a.k); untouched = λ w again. refl }
 
 pub returns-in-Fine : goal.returns-in-Fine
 returns-in-Fine c =
-    let b = c.before.before in
-    let o = b.before.before in
-    let k = o.before.before in
-    let t = k.before in
-    let f = t.before.before.before in
-    let a = f.args in
-    let e = passing a.k a.table.now a.levels.now (length a.work.now) f.step_for-stepping.result f.step_for-stepping.ensures t.in-Is.step t.in-Is.is k.check-checked.result k.check-checked.ensures o.in-Fine.is in
-    (subst (Gives 720 a.k b.best.result) (sym e) b.best.ensures, λ w again. said_twice e again)
-
--- ASKED ['gives', 'untouched']
+    let a = c.args in
+    let e = passing a.k a.table.now a.levels.now (length a.work.now) c.step_for-stepping.result c.step_for-stepping.ensures c.in-Is.step c.in-Is.is c.check-checked.result c.check-checked.ensures c.in-Fine.is in
+    record { gives = subst (Gives 720 a.k c.best.result) (sym e) c.best.ensures; untouched = λ w again. said_twice e again }

@@ -1,14 +1,13 @@
 -- `level_set::check` meets its contract, by its five tests in the order of the refusals. Assumes nothing.
 use mathlib.Core.Path.{◌≡◌, sym, ◌∙◌}
 use mathlib.Core.Logic.{⊎_elim}
-use mathlib.Core.Bool.{true, false, and-false}
+use mathlib.Core.Bool.{Bool, true, false, and-false}
 use mathlib.Core.List.{List}
-use Prim.Native.Nat.{ℕ, ◌≤◌, ◌<◌}
-use native.Mathlib.Omega.{arith}
+use Prim.Native.Nat.{ℕ, ◌/◌, ◌≤◌, ◌<◌}
 use lib.Dec.{leb}
 use lib.Ieee.{Float}
 use lib.ListN.{length}
-use borrow.Author.Tests.{le-leb, lt-leb, ltb-true, ltb-false}
+use borrow.Author.Tests.{le-leb, lt-leb}
 use Rattle.limits.specs.Answers.{Said, value, refused}
 use Rattle.gamut.specs.Table.{levels_in, table_taken}
 use Rattle.gamut.proofs.Table.{levelled}
@@ -66,53 +65,49 @@ returns-then-not-takes_table c = first _ _ c.args.room (sym c.takes_table.ensure
 
 pub returns-then-room-lt-HUES : goal.returns-then-room-lt-HUES
 unfolding work_needed
-returns-then-room-lt-HUES c = second _ c.args.levels.now _ (let it : table_taken c.before.args.table.now ≡ true = sym c.before.takes_table.ensures ∙ c.before.if-not-takes_table.false in it) c.if-room-lt-HUES.true
+returns-then-room-lt-HUES c = second _ c.args.levels.now _ (sym c.takes_table.ensures ∙ c.if-not-takes_table.false) c.if-room-lt-HUES.true
 
 pub returns-then-levels-lt1 : goal.returns-then-levels-lt1
+unfolding work_needed
 returns-then-levels-lt1 c =
-    let e = c.before in
-    let a = e.args in
+    let a = c.args in
     let levels = a.levels.now in
-    third a.table.now levels a.room (let it : table_taken e.before.args.table.now ≡ true = sym e.before.takes_table.ensures ∙ e.before.if-not-takes_table.false in it) (let it : work_needed 720 ≤ e.args.room = e.if-room-lt-HUES.false in it)
-    (⊎_elim (λ r. too_few levels (let h = r.taken in omega arith)) (λ r. too_many levels (let h = ltb-true _ (length levels) r.1.taken in omega arith)) c.then-levels-lt1.branch)
+    third a.table.now levels a.room (sym c.takes_table.ensures ∙ c.if-not-takes_table.false) c.if-room-lt-HUES.false
+    (⊎_elim (too_few levels) (λ r. too_many levels r.1) c.then-levels-lt1.either)
 
 -- what is known after the first three
-record Known (c : goal.Else-levels-gt8) : Type 0 where
-  table : table_taken c.args.table.now ≡ true
-  buffer : work_needed 720 ≤ c.args.room
-  list : Listed c.args.levels.now
+record Known (t : List Float) (levels : List ℕ) (room : ℕ) : Type 0 where
+  table : table_taken t ≡ true
+  buffer : work_needed 720 ≤ room
+  list : Listed levels
 
-known : (c : goal.Else-levels-gt8) → Known c
-known c =
-    let e = c.before.before in
-    let some = c.if-levels-lt1.false in
-    let few = ltb-false _ (length c.args.levels.now) c.if-levels-gt8.false in
-    record { table = (let it : table_taken e.before.args.table.now ≡ true = sym e.before.takes_table.ensures ∙ e.before.if-not-takes_table.false in it); buffer = (let it : work_needed 720 ≤ e.args.room = e.if-room-lt-HUES.false in it); list = (omega arith, omega arith) }
+known : {t : List Float} {levels : List ℕ} {room : ℕ} → table_taken t ≡ true → 720 ≤ room → 1 ≤ length levels → length levels ≤ 8 → Known t levels room
+unfolding work_needed
+known one two some few = record { table = one; buffer = two; list = (some, few) }
+
+-- and after the indices
+four : (t : List Float) (levels : List ℕ) (r : Bool) → r ≡ indices_taken (length t / 720) levels → r ≡ true → indices_taken (levels_in t) levels ≡ true
+unfolding levels_in
+four t levels r told taken = sym told ∙ taken
 
 pub returns-then-not-takes_indices : goal.returns-then-not-takes_indices
 unfolding levels_in
 returns-then-not-takes_indices c =
-    let k = known c.before.before in
+    let k : Known c.args.table.now c.args.levels.now c.args.room = known (sym c.takes_table.ensures ∙ c.if-not-takes_table.false) c.if-room-lt-HUES.false c.if-levels-lt1.false c.if-levels-gt8.false in
     fourth _ _ _ k.table k.buffer (list_taken_lem _ k.list) (sym c.takes_indices.ensures ∙ c.if-not-takes_indices.true)
-
-four : (c : goal.Else-not-takes_indices) → let a = c.args in indices_taken (levels_in a.table.now) a.levels.now ≡ true
-unfolding levels_in
-four c = sym c.takes_indices.ensures ∙ c.if-not-takes_indices.false
 
 pub takes_rows-requires : goal.takes_rows-requires
 takes_rows-requires c =
-    let k = known c.before.before in
+    let k : Known c.args.table.now c.args.levels.now c.args.room = known (sym c.takes_table.ensures ∙ c.if-not-takes_table.false) c.if-room-lt-HUES.false c.if-levels-lt1.false c.if-levels-gt8.false in
     let l = levelled _ k.table in
-    record { long = l.long; few_levels = l.few_levels; some_level = k.list.0; within = indices_in _ _ (four c) }
+    record { long = l.long; few_levels = l.few_levels; some_level = k.list.0; within = indices_in _ _ (four _ _ _ c.takes_indices.ensures c.if-not-takes_indices.false) }
 
 pub returns-then-not-takes_rows : goal.returns-then-not-takes_rows
 returns-then-not-takes_rows c =
-    let g = c.before.before in
-    let k = known g.before.before in
-    fifth _ _ _ k.table k.buffer (list_taken_lem _ k.list) (four g) (sym c.takes_rows.ensures ∙ c.if-not-takes_rows.true)
+    let k : Known c.args.table.now c.args.levels.now c.args.room = known (sym c.takes_table.ensures ∙ c.if-not-takes_table.false) c.if-room-lt-HUES.false c.if-levels-lt1.false c.if-levels-gt8.false in
+    fifth _ _ _ k.table k.buffer (list_taken_lem _ k.list) (four _ _ _ c.takes_indices.ensures c.if-not-takes_indices.false) (sym c.takes_rows.ensures ∙ c.if-not-takes_rows.true)
 
 pub returns : goal.returns
 returns c =
-    let g = c.before.before in
-    let k = known g.before.before in
-    fine _ _ _ k.table k.buffer (list_taken_lem _ k.list) (four g) (sym c.takes_rows.ensures ∙ c.if-not-takes_rows.false)
+    let k : Known c.args.table.now c.args.levels.now c.args.room = known (sym c.takes_table.ensures ∙ c.if-not-takes_table.false) c.if-room-lt-HUES.false c.if-levels-lt1.false c.if-levels-gt8.false in
+    fine _ _ _ k.table k.buffer (list_taken_lem _ k.list) (four _ _ _ c.takes_indices.ensures c.if-not-takes_indices.false) (sym c.takes_rows.ensures ∙ c.if-not-takes_rows.false)

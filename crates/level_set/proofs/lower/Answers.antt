@@ -1,7 +1,6 @@
 -- `level_set::lower` meets its contract. The invariant: the numbers below i are lowered, and those from i on are as they were. Assumes nothing.
 use mathlib.Core.Path.{◌≡◌, refl, ap, ◌∙◌}
-use mathlib.Core.Logic.{⊎_elim}
-use Prim.Native.Nat.{ℕ, ◌+◌, ◌-◌, ◌≤◌, ◌<◌}
+use Prim.Native.Nat.{ℕ, ◌+◌, ◌≤◌, ◌<◌}
 use native.Mathlib.Nat.{ne_of_lt, ne_of_gt}
 use native.Mathlib.Omega.{arith}
 use lib.Ieee.{nan}
@@ -10,6 +9,7 @@ use lib.Seq.{get_or-set_same, get_or-set_other}
 use borrow.Author.Count.{below_none, below_more}
 use Rattle.pair_rules.specs.Rows.{lesser}
 use Rattle.level_set.proofs.lower.Goals as goal
+use Rattle.level_set.proofs.lower.Goals.{then-y-x, else-y-x}
 
 pub loop-i-init : goal.loop-i-init
 loop-i-init c = (omega arith, refl, below_none _, λ h l. refl)
@@ -57,7 +57,7 @@ loop-i-preserved c =
     let n = length-set row i v in
     let u : i < length row = omega arith in
     let own : get_or row i nan ≡ get_or a.row.now i nan = l.loop-i.invariant.3 i (omega arith) in
-    let value : v ≡ lesser (get_or a.by.now i nan) (get_or row i nan) = ⊎_elim (λ t. rw (t.1, t.0.taken)) (λ t. rw (t.1, t.0.left)) c.if-y-x.branch in (
+    let value : v ≡ lesser (get_or a.by.now i nan) (get_or row i nan) = elim c.if-y-x.branch [ then-y-x t ↦ rw (t.row-is, t.if-y-x.true) | else-y-x t ↦ rw (t.row-is, t.if-y-x.false) ] in (
       omega arith,
       n ∙ e,
       below_more _ i (λ (h : ℕ) (g : h < i). get_or-set_other row i h v nan (ne_of_lt g) ∙ l.loop-i.invariant.2 h g) (get_or-set_same row i v nan u ∙ value ∙ ap (lesser (get_or a.by.now i nan)) own),

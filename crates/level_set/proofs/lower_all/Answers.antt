@@ -14,6 +14,7 @@ use Rattle.pair_rules.proofs.Rows.{least_is}
 use Rattle.pair_rules.proofs.Choices.{each_at}
 use Rattle.level_set_rules.specs.Set.{rows_at}
 use Rattle.level_set_rules.proofs.Named.{first_row}
+use Rattle.level_set.specs.Inner.{Named}
 use Rattle.level_set.proofs.Naming.{next_value, level_in}
 use Rattle.level_set.proofs.lower_all.Goals as goal
 
@@ -32,13 +33,8 @@ pub overflow_sub-left : goal.overflow_sub-left
 overflow_sub-left c = let h = c.loop-left-test.true in omega arith
 
 -- in the loop the level is one of the table, and its row lies in the table
-inside : (b : goal.In-loop-left) → let a = b.args in let l = get_or a.levels.now (b.loop-left.false - 1) 0 in (l ≤ 168) × (l * 720 + 720 ≤ length a.table.now)
-inside b =
-    let l = b.before in
-    let s = l.before.before.before.before in
-    let h = b.loop-left-test.true in
-    let few = l.loop-left.invariant.0 in
-    level_in s.args.levels.now (l.loop-left.false - 1) s.args.table.now s.requires.0 (omega arith)
+inside : {t : List Float} {levels : List ℕ} → Named t levels → (left : ℕ) → 0 < left → left ≤ length levels → let l = get_or levels (left - 1) 0 in (l ≤ 168) × (l * 720 + 720 ≤ length t)
+inside {t} {levels} named left h few = level_in levels (left - 1) t named (omega arith)
 
 pub offset_bounds-levels-left : goal.offset_bounds-levels-left
 offset_bounds-levels-left c = let h = c.loop-left-test.true in let few = c.loop-left.invariant.0 in omega arith
@@ -47,39 +43,30 @@ pub bounds-levels-left : goal.bounds-levels-left
 bounds-levels-left c = let h = c.loop-left-test.true in let few = c.loop-left.invariant.0 in omega arith
 
 pub overflow_mul-from : goal.overflow_mul-from
-overflow_mul-from c = let i = inside c.before in omega arith
+overflow_mul-from c = let i = inside c.requires.0 c.loop-left.left c.loop-left-test.true c.loop-left.invariant.0 in omega arith
 
 pub overflow_add-from : goal.overflow_add-from
-overflow_add-from c = let i = inside c.before in omega arith
+overflow_add-from c = let i = inside c.requires.0 c.loop-left.left c.loop-left-test.true c.loop-left.invariant.0 in omega arith
 
 pub offset_bounds-table-from : goal.offset_bounds-table-from
-offset_bounds-table-from c = let i = inside c.before in omega arith
+offset_bounds-table-from c = let i = inside c.requires.0 c.loop-left.left c.loop-left-test.true c.loop-left.invariant.0 in omega arith
 
 pub slice_bounds-lower-count : goal.slice_bounds-lower-count
-slice_bounds-lower-count c = let i = inside c.before in omega arith
+slice_bounds-lower-count c = let i = inside c.requires.0 c.loop-left.left c.loop-left-test.true c.loop-left.invariant.0 in omega arith
 
 pub slice_bounds-lower-start : goal.slice_bounds-lower-start
-slice_bounds-lower-start c = let i = inside c.before in omega arith
+slice_bounds-lower-start c = let i = inside c.requires.0 c.loop-left.left c.loop-left-test.true c.loop-left.invariant.0 in omega arith
 
 pub slice_bounds-lower-end : goal.slice_bounds-lower-end
-slice_bounds-lower-end c = let i = inside c.before in omega arith
+slice_bounds-lower-end c = let i = inside c.requires.0 c.loop-left.left c.loop-left-test.true c.loop-left.invariant.0 in omega arith
 
 -- the row that is lent, and how long it is
-lent-long : (b : goal.In-loop-left) → let a = b.args in length (part a.table.now (get_or a.levels.now (b.loop-left.false - 1) 0)) ≡ 720
-lent-long b =
-    let l = b.before in
-    let s = l.before.before.before.before in
-    let named = s.requires.0 in
-    let t = s.args.table.now in
-    let levels = s.args.levels.now in
-    let h = b.loop-left-test.true in
-    let few = l.loop-left.invariant.0 in
-    ap length (part_row t (get_or levels (l.loop-left.false - 1) 0)) ∙ row_long t (levels_in t) (get_or levels (l.loop-left.false - 1) 0) named.long (each_at (λ (m : ℕ). m < levels_in t) levels named.within (l.loop-left.false - 1) (omega arith))
+lent_long : {t : List Float} {levels : List ℕ} → Named t levels → (left : ℕ) → 0 < left → left ≤ length levels → length (part t (get_or levels (left - 1) 0)) ≡ 720
+lent_long {t} {levels} named left h few =
+    ap length (part_row t (get_or levels (left - 1) 0)) ∙ row_long t (levels_in t) (get_or levels (left - 1) 0) named.long (each_at (λ (m : ℕ). m < levels_in t) levels named.within (left - 1) (omega arith))
 
 pub lower-requires : goal.lower-requires
-lower-requires c =
-    let b = c.before.before.before in
-    lent-long b ∙ sym b.loop-left.invariant.1
+lower-requires c = lent_long c.requires.0 c.loop-left.left c.loop-left-test.true c.loop-left.invariant.0 ∙ sym c.loop-left.invariant.1
 
 pub loop-left-smaller : goal.loop-left-smaller
 loop-left-smaller c = let h = c.loop-left-test.true in omega arith
@@ -92,12 +79,12 @@ loop-left-preserved c =
     let a = l.args in
     let t = a.table.now in
     let levels = a.levels.now in
-    let i = l.loop-left.false - 1 in
+    let i = l.loop-left.left - 1 in
     let h = b.loop-left-test.true in
     let few = l.loop-left.invariant.0 in
     let long = l.loop-left.invariant.1 in
     let at : i < length levels = omega arith in
-    let on : i + 1 ≡ l.loop-left.false = omega arith in (
+    let on : i + 1 ≡ l.loop-left.left = omega arith in (
       omega arith,
       f.lower.ensures.long ∙ long,
       λ (h : ℕ) (u : h < 720).
@@ -118,7 +105,7 @@ returns c =
     let t = a.table.now in
     let levels = a.levels.now in
     let named = s.requires.0 in
-    let end : l.loop-left.false ≡ 0 = let h = c.loop-left-test.false in omega arith in
+    let end : l.loop-left.left ≡ 0 = let h = c.loop-left-test.false in omega arith in
     let ring = first_row t named.long levels named.some_level named.within in
     least_is (rows_at t levels) l.loop-left.row (l.loop-left.invariant.1 ∙ sym ring)
     (λ h u. l.loop-left.invariant.2 h (subst (λ (n : ℕ). h < n) ring u) ∙ ap (λ (n : ℕ). value_at (rows_at t (drop n levels)) h) end)

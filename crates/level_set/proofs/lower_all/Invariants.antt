@@ -1,6 +1,6 @@
 -- `level_set::lower_all` meets its contract. The invariant: at each hue stands the value of the levels from place `left` on. Assumes nothing.
 use mathlib.Core.Path.{◌≡◌}
-use Prim.Native.Nat.{ℕ, ◌-◌, ◌≤◌, ◌<◌}
+use Prim.Native.Nat.{ℕ, ◌≤◌, ◌<◌}
 use lib.Ieee.{nan}
 use lib.ListN.{length, get_or, drop}
 use Rattle.pair_rules.specs.Rows.{value_at}

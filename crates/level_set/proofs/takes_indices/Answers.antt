@@ -1,7 +1,7 @@
 -- `level_set::takes_indices` meets its contract: the loop keeps what is left of the levels, and stops at the first index that is not below n. Assumes nothing.
 use mathlib.Core.Path.{refl, sym, ap, ◌∙◌}
 use mathlib.Core.Bool.{Bool, ◌&&◌}
-use Prim.Native.Nat.{◌+◌, ◌-◌}
+use Prim.Native.Nat.{◌+◌}
 use native.Mathlib.Omega.{arith}
 use lib.ListN.{get_or, drop}
 use borrow.Author.Tests.{lt-ltb, le-ltb}
