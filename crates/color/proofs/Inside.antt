@@ -4,8 +4,7 @@ use mathlib.Core.Bool.{Bool, true, false, cond}
 use Prim.Native.Nat.{ℕ}
 use native.Mathlib.Omega.{arith}
 use lib.Ieee.{Float}
-use Rattle.limits.specs.Answers.{Said, value, refused}
-use Rattle.limits.specs.Refusals.{number}
+use Rattle.limits.specs.Answers.{value, refused}
 use Rattle.limits.specs.Taken.{root_operand_taken}
 use Rattle.roots.specs.declared.Root.{Root}
 use Rattle.roots.specs.declared.Root.TheVariants.{Is, Refused}

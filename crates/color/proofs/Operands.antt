@@ -1,10 +1,8 @@
 -- No negative number is ever handed to a root inside a conversion: a sum of two squares has its sign bit clear, and so has what lies above (6/29) ^ 3. Assumes nothing.
-use mathlib.Core.Path.{◌≡◌, refl, sym, ap, ◌∙◌}
-use mathlib.Core.Bool.{Bool, true, false, not, beq, cond}
-use Prim.Native.Nat.{ℕ, ◌+◌, ◌*◌}
-use lib.Dec.{eqb}
-use lib.IntN.{ℤ}
-use lib.Ieee.{Float, nan, inf, fin, binary32, up, down, unlike, round, sum, add, mul, lt}
+use mathlib.Core.Path.{◌≡◌, refl, sym}
+use mathlib.Core.Bool.{true, false}
+use Prim.Native.Nat.{◌+◌, ◌*◌}
+use lib.Ieee.{Float, nan, inf, fin, binary32, up, down, round, sum, add, mul, lt}
 use Rattle.limits.specs.Taken.{sign_bit}
 use Rattle.limits.proofs.Floats.{never, round_sign}
 use Rattle.color.specs.Constants.{delta_cubed}

@@ -2,7 +2,6 @@
 use lib.Ieee.{of_bits, of_int, round}
 use Rattle.color.specs.Constants.{white}
 use Rattle.color.specs.Color.{lightness, lab_to_xyz}
-use borrow.Author.Rules.{rules}
 use Rattle.color.proofs.lab_to_xyz.Goals as goal
 
 pub returns : goal.returns

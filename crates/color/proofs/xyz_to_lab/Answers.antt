@@ -2,7 +2,6 @@
 use lib.Ieee.{of_bits, of_int, round}
 use Rattle.color.specs.Constants.{white}
 use Rattle.color.specs.Color.{relative, xyz_to_lab}
-use borrow.Author.Rules.{rules}
 use Rattle.color.proofs.xyz_to_lab.Goals as goal
 
 pub returns : goal.returns
