@@ -3,13 +3,14 @@ use mathlib.Core.Path.{◌≡◌, refl, ap, ◌∙◌}
 use Prim.Native.Nat.{ℕ, ◌-◌, ◌*◌, ◌/◌, ◌%◌, ◌≤◌, ◌<◌}
 use native.Mathlib.Nat.{mod-lt, div-lt_iff_lt-mul}
 use native.Mathlib.Omega.{arith}
-use mathlib.Core.Bool.{cond}
+use mathlib.Core.Bool.{true, cond}
 use mathlib.Core.List.{List}
 use lib.Ieee.{Float}
 use Rattle.gamut.specs.Table.{row_at}
 use Rattle.pair_rules.specs.Rows.{lesser, largest}
 use Rattle.search_rules.specs.declared.Settings.{Settings}
-use Rattle.search_rules.specs.Job.{qualifies}
+use Rattle.search_rules.specs.declared.Job.{Job}
+use Rattle.search_rules.specs.Job.{qualifies, unbroken}
 use Rattle.search_rules.specs.Loops.{loop}
 use Rattle.search_rules.proofs.Unbroken.{sound, square}
 use Rattle.search_rules.proofs.Turns.{one_taken, all_taken}
@@ -25,58 +26,51 @@ module _ (s : Settings) (t : List Float) (m p : ℕ) (x y : Float) (so next : Ce
 
 pub overflow_mul-all : goal.overflow_mul-all
 overflow_mul-all c =
-    let s = c.before.before in
-    let j = s.args.job in
-    let q = square j.levels (sound j s.requires.looked.whole).few_levels in
+    let j = c.args.job in
+    let q = square j.levels (sound j c.requires.looked.whole).few_levels in
     omega arith
 
 pub tops_of-tops-requires : goal.tops_of-tops-requires
 tops_of-tops-requires c =
-    let s = c.before.before in
-    let l = s.requires.looked in
-    record { few = (sound s.args.job l.whole).few_levels; long = l.long; entries = l.entries; f32 = s.requires.f32 }
+    let l = c.requires.looked in
+    record { few = (sound c.args.job l.whole).few_levels; long = l.long; entries = l.entries; f32 = c.requires.f32 }
 
 pub loop-p-init : goal.loop-p-init
 loop-p-init c =
-    let s = c.before.before.before in
-    let w = (sound s.args.job s.requires.looked.whole).within in
+    let w = (sound c.args.job c.requires.looked.whole).within in
     (omega arith, refl)
 
 -- in the loop: some levels and not too many, and a position of theirs
-inside : (c : goal.In-loop-p) → let m = c.args.job.levels in let p = c.loop-p.p in (1 ≤ m) × (m ≤ 169) × (p / m < m) × (p % m < m)
-inside c =
-    let s = c.before.before.before.before.before in
-    let j = s.args.job in
-    let ok = sound j s.requires.looked.whole in
-    (ok.some_level, ok.few_levels, (div-lt_iff_lt-mul ok.some_level).1 c.loop-p-test.true, mod-lt c.loop-p.p ok.some_level)
+inside : (j : Job) (p : ℕ) → unbroken j ≡ true → p < j.levels * j.levels → (1 ≤ j.levels) × (j.levels ≤ 169) × (p / j.levels < j.levels) × (p % j.levels < j.levels)
+inside j p whole test =
+    let ok = sound j whole in
+    (ok.some_level, ok.few_levels, (div-lt_iff_lt-mul ok.some_level).1 test, mod-lt p ok.some_level)
 
 pub nonzero_div-dark : goal.nonzero_div-dark
-nonzero_div-dark c = let i = inside c in let a = i.0 in omega arith
+nonzero_div-dark c = let i = inside c.args.job c.loop-p.p c.requires.looked.whole c.loop-p-test.true in let a = i.0 in omega arith
 
 pub nonzero_rem-light : goal.nonzero_rem-light
-nonzero_rem-light c = let i = inside c in let a = i.0 in omega arith
+nonzero_rem-light c = let i = inside c.args.job c.loop-p.p c.requires.looked.whole c.loop-p-test.true in let a = i.0 in omega arith
 
 pub offset_bounds-tops-dark : goal.offset_bounds-tops-dark
-offset_bounds-tops-dark c = let i = inside c in let a = i.1 in let b = i.2 in omega arith
+offset_bounds-tops-dark c = let i = inside c.args.job c.loop-p.p c.requires.looked.whole c.loop-p-test.true in let a = i.1 in let b = i.2 in omega arith
 
 pub bounds-tops-dark : goal.bounds-tops-dark
-bounds-tops-dark c = let i = inside c in let a = i.1 in let b = i.2 in omega arith
+bounds-tops-dark c = let i = inside c.args.job c.loop-p.p c.requires.looked.whole c.loop-p-test.true in let a = i.1 in let b = i.2 in omega arith
 
 pub offset_bounds-tops-light : goal.offset_bounds-tops-light
-offset_bounds-tops-light c = let i = inside c in let a = i.1 in let b = i.3 in omega arith
+offset_bounds-tops-light c = let i = inside c.args.job c.loop-p.p c.requires.looked.whole c.loop-p-test.true in let a = i.1 in let b = i.3 in omega arith
 
 pub bounds-tops-light : goal.bounds-tops-light
-bounds-tops-light c = let i = inside c in let a = i.1 in let b = i.3 in omega arith
+bounds-tops-light c = let i = inside c.args.job c.loop-p.p c.requires.looked.whole c.loop-p-test.true in let a = i.1 in let b = i.3 in omega arith
 
 pub with_pair-top-requires : goal.with_pair-top-requires
-with_pair-top-requires c = let i = inside c in let a = i.1 in let b = i.2 in let d = i.3 in (omega arith, omega arith)
+with_pair-top-requires c = let i = inside c.args.job c.loop-p.p c.requires.looked.whole c.loop-p-test.true in let a = i.1 in let b = i.2 in let d = i.3 in (omega arith, omega arith)
 
 pub overflow_add-p : goal.overflow_add-p
 overflow_add-p c =
-    let l = c.before.before in
-    let s = l.before.before.before.before in
-    let j = s.args.job in
-    let q = square j.levels (sound j s.requires.looked.whole).few_levels in
+    let j = c.args.job in
+    let q = square j.levels (sound j c.requires.looked.whole).few_levels in
     let test = c.loop-p-test.true in
     omega arith
 
@@ -85,24 +79,19 @@ loop-p-smaller c = let test = c.loop-p-test.true in omega arith
 
 pub loop-p-preserved : goal.loop-p-preserved
 loop-p-preserved c =
-    let l = c.before.before in
-    let tops = l.before in
-    let s = tops.before.before.before in
-    let j = s.args.job in
-    let t = s.args.table.now in
+    let j = c.args.job in
+    let t = c.args.table.now in
     let m = j.levels in
-    let p = l.loop-p.p in
+    let p = c.loop-p.p in
     let test = c.loop-p-test.true in
-    let i = inside c.before in
-    let filled = tops.tops_of-tops.ensures.filled in
-    let next = turned j.settings t m p _ _ (top_said l.loop-p.top) (top_said c.with_pair-top.result) (filled (p / m) i.2) (filled (p % m) i.3) c.with_pair-top.ensures in
-    (omega arith, one_taken (with_pair j.settings t m) (m * m) p (top_said l.loop-p.top) (top_said c.with_pair-top.result) _ test next l.loop-p.invariant.1)
+    let i = inside c.args.job c.loop-p.p c.requires.looked.whole c.loop-p-test.true in
+    let filled = c.tops_of-tops.ensures.filled in
+    let next = turned j.settings t m p _ _ (top_said c.loop-p.top) (top_said c.with_pair-top.result) (filled (p / m) i.2) (filled (p % m) i.3) c.with_pair-top.ensures in
+    (omega arith, one_taken (with_pair j.settings t m) (m * m) p (top_said c.loop-p.top) (top_said c.with_pair-top.result) _ test next c.loop-p.invariant.1)
 
 pub returns : goal.returns
 unfolding ceiling_from
 returns c =
-    let l = c.before in
-    let s = l.before.before.before.before in
-    let j = s.args.job in
-    let t = s.args.table.now in
-    all_taken (with_pair j.settings t j.levels) (j.levels * j.levels) l.loop-p.p (top_said l.loop-p.top) _ c.loop-p-test.false l.loop-p.invariant.1
+    let j = c.args.job in
+    let t = c.args.table.now in
+    all_taken (with_pair j.settings t j.levels) (j.levels * j.levels) c.loop-p.p (top_said c.loop-p.top) _ c.loop-p-test.false c.loop-p.invariant.1

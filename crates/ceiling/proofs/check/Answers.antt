@@ -42,18 +42,16 @@ returns-then-not-is_unbroken c = first _ _ (sym c.is_unbroken.ensures ∙ c.if-n
 
 pub overflow_mul-job : goal.overflow_mul-job
 overflow_mul-job c =
-    let few = (sound c.args.job (let it : unbroken c.before.args.job ≡ true = sym c.before.is_unbroken.ensures ∙ c.before.if-not-is_unbroken.false in it)).few_levels in
+    let few = (sound c.args.job (let it : unbroken c.args.job ≡ true = sym c.is_unbroken.ensures ∙ c.if-not-is_unbroken.false in it)).few_levels in
     omega arith
 
 pub returns-then-table-job : goal.returns-then-table-job
-returns-then-table-job c = second _ _ (let it : unbroken c.before.before.args.job ≡ true = sym c.before.before.is_unbroken.ensures ∙ c.before.before.if-not-is_unbroken.false in it) c.if-table-job.true
+returns-then-table-job c = second _ _ (let it : unbroken c.args.job ≡ true = sym c.is_unbroken.ensures ∙ c.if-not-is_unbroken.false in it) c.if-table-job.true
 
 pub returns-then-not-takes_entries : goal.returns-then-not-takes_entries
 returns-then-not-takes_entries c =
-    let e = c.before.before in
-    third _ _ (let it : unbroken e.before.before.args.job ≡ true = sym e.before.before.is_unbroken.ensures ∙ e.before.before.if-not-is_unbroken.false in it) e.if-table-job.false (sym c.takes_entries.ensures ∙ c.if-not-takes_entries.true)
+    third _ _ (let it : unbroken c.args.job ≡ true = sym c.is_unbroken.ensures ∙ c.if-not-is_unbroken.false in it) c.if-table-job.false (sym c.takes_entries.ensures ∙ c.if-not-takes_entries.true)
 
 pub returns : goal.returns
 returns c =
-    let e = c.before.before in
-    fine _ _ (let it : unbroken e.before.before.args.job ≡ true = sym e.before.before.is_unbroken.ensures ∙ e.before.before.if-not-is_unbroken.false in it) e.if-table-job.false (sym c.takes_entries.ensures ∙ c.if-not-takes_entries.false)
+    fine _ _ (let it : unbroken c.args.job ≡ true = sym c.is_unbroken.ensures ∙ c.if-not-is_unbroken.false in it) c.if-table-job.false (sym c.takes_entries.ensures ∙ c.if-not-takes_entries.false)

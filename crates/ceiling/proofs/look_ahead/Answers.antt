@@ -38,28 +38,22 @@ module _ (j : Job) (t : List Float) (r : Checked) (says : check_said r ≡ outlo
 
 pub ceiling_of-top-requires : goal.ceiling_of-top-requires
 ceiling_of-top-requires c =
-    let k = c.before.before in
-    let a = k.args in
-    record { looked = whole a.job a.table.now k.check-checked.result k.check-checked.ensures c.in-Fine.is; f32 = each_at F32 nan a.table.now k.shared_slice_known-1.given }
+    let a = c.args in
+    record { looked = whole a.job a.table.now c.check-checked.result c.check-checked.ensures c.in-Fine.is; f32 = each_at F32 nan a.table.now c.type_inv.table }
 
 pub returns-in-Wrong : goal.returns-in-Wrong
 returns-in-Wrong c =
-    let k = c.before.before.before in
-    let a = k.args in
-    sym (refusing a.job a.table.now k.check-checked.result k.check-checked.ensures c.in-Wrong.why c.in-Wrong.is)
+    let a = c.args in
+    sym (refusing a.job a.table.now c.check-checked.result c.check-checked.ensures c.in-Wrong.why c.in-Wrong.is)
 
 pub returns-in-Absent : goal.returns-in-Absent
 returns-in-Absent c =
-    let e = c.before.before.before in
-    let k = e.before.before in
-    let a = k.args in
+    let a = c.args in
     let top : top_said c.ceiling_of-top.result ≡ ceiling_of a.job a.table.now = c.ceiling_of-top.ensures in
-    ap (λ (x : Ceiling). value (a.job.best, x)) (sym (ap top_said c.in-Absent.is) ∙ top) ∙ sym (passing a.job a.table.now k.check-checked.result k.check-checked.ensures e.in-Fine.is)
+    ap (λ (x : Ceiling). value (a.job.best, x)) (sym (ap top_said c.in-Absent.is) ∙ top) ∙ sym (passing a.job a.table.now c.check-checked.result c.check-checked.ensures c.in-Fine.is)
 
 pub returns-in-AtMost : goal.returns-in-AtMost
 returns-in-AtMost c =
-    let e = c.before.before.before.before in
-    let k = e.before.before in
-    let a = k.args in
+    let a = c.args in
     let top : top_said c.ceiling_of-top.result ≡ ceiling_of a.job a.table.now = c.ceiling_of-top.ensures in
-    ap (λ (x : Ceiling). value (a.job.best, x)) (sym (ap top_said c.in-AtMost.is) ∙ top) ∙ sym (passing a.job a.table.now k.check-checked.result k.check-checked.ensures e.in-Fine.is)
+    ap (λ (x : Ceiling). value (a.job.best, x)) (sym (ap top_said c.in-AtMost.is) ∙ top) ∙ sym (passing a.job a.table.now c.check-checked.result c.check-checked.ensures c.in-Fine.is)

@@ -15,23 +15,20 @@ loop-i-init c = (omega arith, refl, λ p l. absurd (not-suc-le-zero l))
 
 pub largest_of-requires : goal.largest_of-requires
 largest_of-requires c =
-    let l = c.before.before in
-    let s = l.before.before in
-    let t = s.args.table.now in
-    let i = l.loop-i.i in
-    rw (part_row t i) record { long = row_long t s.args.levels i s.requires.long c.loop-i-test.true; entries = row_taken t i s.requires.entries; f32 = row_f32 t i s.requires.f32 }
+    let t = c.args.table.now in
+    let i = c.loop-i.i in
+    rw (part_row t i) record { long = row_long t c.args.levels i c.requires.long c.loop-i-test.true; entries = row_taken t i c.requires.entries; f32 = row_f32 t i c.requires.f32 }
 
 pub loop-i-preserved : goal.loop-i-preserved
 loop-i-preserved c =
-    let l = c.before.before.before in
-    let a = l.args in
-    let i = l.loop-i.i in
-    let inv = l.loop-i.invariant in
+    let a = c.args in
+    let i = c.loop-i.i in
+    let inv = c.loop-i.invariant in
     let t = a.table.now in (
       omega arith,
-      length-set l.loop-i.tops i _ ∙ inv.1,
-      filled_next (λ p. largest (row_at t p)) l.loop-i.tops i c.largest_of.result (omega arith) inv.2 (c.largest_of.ensures ∙ ap largest (part_row t i)),
+      length-set c.loop-i.tops i _ ∙ inv.1,
+      filled_next (λ p. largest (row_at t p)) c.loop-i.tops i c.largest_of.result (omega arith) inv.2 (c.largest_of.ensures ∙ ap largest (part_row t i)),
     )
 
 pub returns : goal.returns
-returns c = let l = c.before in record { long = l.loop-i.invariant.1; filled = λ (i : ℕ) (h : i < l.args.levels). l.loop-i.invariant.2 i (let e = c.loop-i-test.false in omega arith) }
+returns c = record { long = c.loop-i.invariant.1; filled = λ (i : ℕ) (h : i < c.args.levels). c.loop-i.invariant.2 i (let e = c.loop-i-test.false in omega arith) }

@@ -27,10 +27,8 @@ returns-then-not-qualifies c = passed _ _ _ (sym c.qualifies.ensures ∙ c.if-no
 
 pub returns-then-b-a : goal.returns-then-b-a
 returns-then-b-a c =
-    let t = c.before in
-    second _ (let it : let a = t.before.args in qualifies a.settings a.dark a.light ≡ true = sym t.before.qualifies.ensures ∙ t.before.if-not-qualifies.false in it) _ _ _ (top_said t.args.so) t.if-b-a.true c.raised.ensures
+    second _ (let it : let a = c.args in qualifies a.settings a.dark a.light ≡ true = sym c.qualifies.ensures ∙ c.if-not-qualifies.false in it) _ _ _ (top_said c.args.so) c.if-b-a.true c.raised.ensures
 
 pub returns : goal.returns
 returns c =
-    let t = c.before in
-    first _ (let it : let a = t.before.args in qualifies a.settings a.dark a.light ≡ true = sym t.before.qualifies.ensures ∙ t.before.if-not-qualifies.false in it) _ _ _ (top_said t.args.so) t.if-b-a.false c.raised-2.ensures
+    first _ (let it : let a = c.args in qualifies a.settings a.dark a.light ≡ true = sym c.qualifies.ensures ∙ c.if-not-qualifies.false in it) _ _ _ (top_said c.args.so) c.if-b-a.false c.raised-2.ensures

@@ -38,29 +38,23 @@ partner_in gap t hue h f32 (found c d l p) e = let g = found_greatest gap t hue 
 
 pub over_dark-requires : goal.over_dark-requires
 over_dark-requires c =
-    let k = c.before.before in
-    let s = k.before in
-    let a = s.args in
-    record { taken = taken a.gap a.table.now a.hue k.check-checked.result k.check-checked.ensures c.in-Fine.is; f32 = each_at F32 nan a.table.now s.shared_slice_known-1.given }
+    let a = c.args in
+    record { taken = taken a.gap a.table.now a.hue c.check-checked.result c.check-checked.ensures c.in-Fine.is; f32 = each_at F32 nan a.table.now c.type_inv.table }
 
 pub handed-requires : goal.handed-requires
 handed-requires c =
-    let k = c.before.before.before in
-    let s = k.before in
-    let a = s.args in
-    let h = taken a.gap a.table.now a.hue k.check-checked.result k.check-checked.ensures c.in-Fine.is in
-    record { hue_in = h.hue_in; partner_in = partner_in a.gap a.table.now a.hue h (each_at F32 nan a.table.now s.shared_slice_known-1.given) (best_of c.over_dark.result) (sym c.over_dark.ensures) }
+    let a = c.args in
+    let h = taken a.gap a.table.now a.hue c.check-checked.result c.check-checked.ensures c.in-Fine.is in
+    record { hue_in = h.hue_in; partner_in = partner_in a.gap a.table.now a.hue h (each_at F32 nan a.table.now c.type_inv.table) (best_of c.over_dark.result) (sym c.over_dark.ensures) }
 
 pub returns-in-Wrong : goal.returns-in-Wrong
 returns-in-Wrong c =
-    let k = c.before.before.before in
-    let a = k.args in
-    let e = refusing a.gap a.table.now a.hue k.check-checked.result k.check-checked.ensures c.in-Wrong.why c.in-Wrong.is in
+    let a = c.args in
+    let e = refusing a.gap a.table.now a.hue c.check-checked.result c.check-checked.ensures c.in-Wrong.why c.in-Wrong.is in
     subst (Gives _ a.hue) (sym e) (record { says = refl; beside = refl })
 
 pub returns-in-Fine : goal.returns-in-Fine
 returns-in-Fine c =
-    let k = c.before.before.before.before in
-    let a = k.args in
-    let e = passing a.gap a.table.now a.hue k.check-checked.result k.check-checked.ensures c.in-Fine.is in
+    let a = c.args in
+    let e = passing a.gap a.table.now a.hue c.check-checked.result c.check-checked.ensures c.in-Fine.is in
     subst (Gives c.handed.result a.hue) (ap value c.over_dark.ensures ∙ sym e) c.handed.ensures

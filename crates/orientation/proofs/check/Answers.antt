@@ -48,25 +48,16 @@ module _ (gap : Float) (table : List Float) (hue : ℕ) where
 pub returns-then-not-takes_gap : goal.returns-then-not-takes_gap
 returns-then-not-takes_gap c = first _ _ c.args.hue (sym c.takes_gap.ensures ∙ c.if-not-takes_gap.true)
 
-one : (c : goal.Else-not-takes_gap) → gap_taken c.args.gap ≡ true
-one c = sym c.takes_gap.ensures ∙ c.if-not-takes_gap.false
-
 pub returns-then-hue-ge-HUES : goal.returns-then-hue-ge-HUES
 returns-then-hue-ge-HUES c =
-    let o = c.before in
-    let k = o.before.before in
-    let hue = k.args.hue in
-    in_hue _ _ hue (one k.before) k.check_table-checked.result k.check_table-checked.ensures o.in-Fine.is (lt-leb hue 719 (omega arith))
+    let hue = c.args.hue in
+    in_hue _ _ hue (sym c.takes_gap.ensures ∙ c.if-not-takes_gap.false) c.check_table-checked.result c.check_table-checked.ensures c.in-Fine.is (lt-leb hue 719 (omega arith))
 
 pub returns-in-Wrong : goal.returns-in-Wrong
 returns-in-Wrong c =
-    let k = c.before.before.before in
-    let why = c.checked-1.given in
-    in_table _ _ k.args.hue (one k.before) k.check_table-checked.result k.check_table-checked.ensures why.0.0 why.1
+    in_table _ _ c.args.hue (sym c.takes_gap.ensures ∙ c.if-not-takes_gap.false) c.check_table-checked.result c.check_table-checked.ensures c.in-Wrong.why c.in-Wrong.is
 
 pub returns-else-hue-ge-HUES : goal.returns-else-hue-ge-HUES
 returns-else-hue-ge-HUES c =
-    let o = c.before in
-    let k = o.before.before in
-    let hue = k.args.hue in
-    nowhere _ _ hue (one k.before) k.check_table-checked.result k.check_table-checked.ensures o.in-Fine.is (le-leb hue 719 (omega arith))
+    let hue = c.args.hue in
+    nowhere _ _ hue (sym c.takes_gap.ensures ∙ c.if-not-takes_gap.false) c.check_table-checked.result c.check_table-checked.ensures c.in-Fine.is (le-leb hue 719 (omega arith))

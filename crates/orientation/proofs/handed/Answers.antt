@@ -22,10 +22,10 @@ module _ (hue : ℕ) (hues : List ℕ) (c : Float) (d l p : ℕ) (best : Kept) (
 
 -- both are hues
 pub overflow_cast-hue : goal.overflow_cast-hue
-overflow_cast-hue c = let s = c.before.before.before in let h = s.requires.hue_in in let p = subst (λ k. PartnerIn (best_of k)) c.in-Found.is s.requires.partner_in in omega arith
+overflow_cast-hue c = let h = c.requires.hue_in in let p = subst (λ k. PartnerIn (best_of k)) c.in-Found.is c.requires.partner_in in omega arith
 
 pub overflow_cast-partner : goal.overflow_cast-partner
-overflow_cast-partner c = let s = c.before.before.before in let h = s.requires.hue_in in let p = subst (λ k. PartnerIn (best_of k)) c.in-Found.is s.requires.partner_in in omega arith
+overflow_cast-partner c = let h = c.requires.hue_in in let p = subst (λ k. PartnerIn (best_of k)) c.in-Found.is c.requires.partner_in in omega arith
 
 pub returns-in-Nothing : goal.returns-in-Nothing
 returns-in-Nothing c =
@@ -34,7 +34,6 @@ returns-in-Nothing c =
 
 pub returns-in-Found : goal.returns-in-Found
 returns-in-Found c =
-    let b = c.before.before in
-    let a = b.args in
+    let a = c.args in
     let two = c.two_hues.ensures in
-    record { says = found_says a.hue c.two_hues.result _ _ _ _ a.best two b.in-Found.is; beside = found_beside a.hue c.two_hues.result _ _ _ _ a.best two b.in-Found.is }
+    record { says = found_says a.hue c.two_hues.result _ _ _ _ a.best two c.in-Found.is; beside = found_beside a.hue c.two_hues.result _ _ _ _ a.best two c.in-Found.is }

@@ -26,15 +26,13 @@ overflow_add-dark c = let inside = c.loop-dark-test.true in omega arith
 
 pub loop-dark-preserved : goal.loop-dark-preserved
 loop-dark-preserved c =
-    let l = c.before.before in
-    let a = l.args in
+    let a = c.args in
     let t = a.table.now in
     let next = c.over_light-best.ensures in
-    (omega arith, one_taken (over_light a.gap t a.hue) (length t / 720) l.loop-dark.dark (best_of l.loop-dark.best) (best_of c.over_light-best.result) (best_fixed a.gap t a.hue) c.loop-dark-test.true next.is l.loop-dark.invariant.1, next.reached)
+    (omega arith, one_taken (over_light a.gap t a.hue) (length t / 720) c.loop-dark.dark (best_of c.loop-dark.best) (best_of c.over_light-best.result) (best_fixed a.gap t a.hue) c.loop-dark-test.true next.is c.loop-dark.invariant.1, next.reached)
 
 pub returns : goal.returns
 returns c =
-    let l = c.before in
-    let a = l.args in
+    let a = c.args in
     let t = a.table.now in
-    all_taken (over_light a.gap t a.hue) (length t / 720) l.loop-dark.dark (best_of l.loop-dark.best) (best_fixed a.gap t a.hue) c.loop-dark-test.false l.loop-dark.invariant.1
+    all_taken (over_light a.gap t a.hue) (length t / 720) c.loop-dark.dark (best_of c.loop-dark.best) (best_fixed a.gap t a.hue) c.loop-dark-test.false c.loop-dark.invariant.1

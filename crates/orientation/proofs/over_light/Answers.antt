@@ -1,6 +1,5 @@
 -- `orientation::over_light` meets its contract: the loop keeps the turns that are left from the best so far. Assumes nothing.
 use mathlib.Core.Path.{◌≡◌, sym, ap, ◌∙◌, subst}
-use mathlib.Core.Logic.{⊎_elim}
 use mathlib.Core.Bool.{true, false}
 use mathlib.Core.List.{List}
 use Prim.Native.Nat.{ℕ, ◌-◌, ◌/◌, ◌≤◌, ◌<◌}
@@ -17,6 +16,7 @@ use Rattle.orientation_rules.proofs.Accepted.{good_table}
 use Rattle.orientation_rules.proofs.Skipping.{Reached, reached_on}
 use Rattle.orientation.specs.Inner.{best_of}
 use Rattle.orientation.proofs.over_light.Goals as goal
+use Rattle.orientation.proofs.over_light.Goals.{then-far_enough, else-far_enough}
 
 -- one light level, by whether it is far enough from the dark one
 module _ (gap : Float) (t : List Float) (hue d l : ℕ) (so : Best) where
@@ -35,72 +35,63 @@ LevelsIn t d l = (d < levels_in t) × (l < levels_in t) × (levels_in t ≤ 169)
 pub loop-light-init : goal.loop-light-init
 unfolding over_light levels_in
 loop-light-init c =
-    let s = c.before in
-    let a = s.args in
-    (omega arith, ap (λ (n : ℕ). loop (λ l. tried a.gap a.table.now a.hue a.dark l) n 0 (best_of a.kept)) (sub-zero (length a.table.now / 720)), s.requires.reached)
+    let a = c.args in
+    (omega arith, ap (λ (n : ℕ). loop (λ l. tried a.gap a.table.now a.hue a.dark l) n 0 (best_of a.kept)) (sub-zero (length a.table.now / 720)), c.requires.reached)
 
 -- the dark level and, in the loop, the light one are levels of the table
-inside : (c : goal.In-loop-light) → let a = c.args in LevelsIn a.table.now a.dark c.loop-light.light
+inside : (t : List Float) (d l : ℕ) → d < levels_in t → l < length t / 720 → levels_in t ≤ 169 → LevelsIn t d l
 unfolding levels_in
-inside c =
-    let s = c.before.before.before in
-    let light = c.loop-light-test.true in
-    (s.requires.dark_in, omega arith, s.requires.asked.taken.levels.1)
+inside t d l dark light few = (dark, light, few)
 
 pub overflow_cast-dark : goal.overflow_cast-dark
-overflow_cast-dark c = let i = inside c in omega arith
+overflow_cast-dark c = let i = inside c.args.table.now c.args.dark c.loop-light.light c.requires.dark_in c.loop-light-test.true c.requires.asked.taken.levels.1 in omega arith
 
 pub overflow_cast-light : goal.overflow_cast-light
-overflow_cast-light c = let i = inside c in omega arith
+overflow_cast-light c = let i = inside c.args.table.now c.args.dark c.loop-light.light c.requires.dark_in c.loop-light-test.true c.requires.asked.taken.levels.1 in omega arith
 
 pub over_partners-best-requires : goal.over_partners-best-requires
 over_partners-best-requires c =
-    let i = inside c.before.before in
-    let l = c.before.before.before in
-    let s = l.before.before in
-    let asked = s.requires.asked in
+    let i = inside c.args.table.now c.args.dark c.loop-light.light c.requires.dark_in c.loop-light-test.true c.requires.asked.taken.levels.1 in
+    let asked = c.requires.asked in
     let taken = asked.taken in
     record {
-      good = good_table s.args.gap s.args.table.now s.args.hue taken asked.f32;
+      good = good_table c.args.gap c.args.table.now c.args.hue taken asked.f32;
       there = record { long = taken.whole_levels; few_levels = i.2; dark_in = omega arith; light_in = omega arith; hue_in = taken.hue_in };
-      reached = l.loop-light.invariant.2;
+      reached = c.loop-light.invariant.2;
     }
 
 pub overflow_add-light : goal.overflow_add-light
-overflow_add-light c = let i = inside c.before.before in omega arith
+overflow_add-light c = let i = inside c.args.table.now c.args.dark c.loop-light.light c.requires.dark_in c.loop-light-test.true c.requires.asked.taken.levels.1 in omega arith
 
 pub loop-light-preserved : goal.loop-light-preserved
 unfolding levels_in
 loop-light-preserved c =
-    let l = c.before.before.before in
-    let s = l.before.before in
-    let a = s.args in
+    let a = c.args in
     let t = a.table.now in
-    let light = l.loop-light.light in
-    let so = best_of l.loop-light.best in
+    let light = c.loop-light.light in
+    let so = best_of c.loop-light.best in
     let test = c.loop-light-test.true in
-    let i = inside c.before.before in
-    let taken = s.requires.asked.taken in
-    let good = good_table a.gap t a.hue taken s.requires.asked.f32 in
+    let i = inside c.args.table.now c.args.dark c.loop-light.light c.requires.dark_in c.loop-light-test.true c.requires.asked.taken.levels.1 in
+    let taken = c.requires.asked.taken in
+    let good = good_table a.gap t a.hue taken c.requires.asked.f32 in
     let next : (best_of c.if-far_enough.best ≡ tried a.gap t a.hue a.dark light so) × Reached (best_of c.if-far_enough.best) =
-    ⊎_elim
-    (λ r. let e = ap best_of r.2 ∙ r.1.ensures in (
-      far a.gap t a.hue a.dark light so (best_of c.if-far_enough.best) (sym c.far_enough.ensures ∙ r.0.taken) e,
-      subst Reached (sym e) (reached_on t good a.hue a.dark light taken.hue_in i.0 i.1 so l.loop-light.invariant.2),
-    ))
-    (λ r. let e = ap best_of r.1 in
-    (e ∙ near a.gap t a.hue a.dark light so (sym c.far_enough.ensures ∙ r.0.left), subst Reached (sym e) l.loop-light.invariant.2))
-    c.if-far_enough.branch in (
+    elim c.if-far_enough.branch [
+      | then-far_enough w ↦ let e = ap best_of w.best-is ∙ w.over_partners-best.ensures in (
+        far a.gap t a.hue a.dark light so (best_of c.if-far_enough.best) (sym c.far_enough.ensures ∙ w.if-far_enough.true) e,
+        subst Reached (sym e) (reached_on t good a.hue a.dark light taken.hue_in i.0 i.1 so c.loop-light.invariant.2),
+      )
+      | else-far_enough w ↦ let e = ap best_of w.best-is in
+          (e ∙ near a.gap t a.hue a.dark light so (sym c.far_enough.ensures ∙ w.if-far_enough.false), subst Reached (sym e) c.loop-light.invariant.2)
+    ] in (
       omega arith,
-      one_taken (tried a.gap t a.hue a.dark) (length t / 720) light so (best_of c.if-far_enough.best) (over_light a.gap t a.hue a.dark (best_of a.kept)) (omega arith) next.0 l.loop-light.invariant.1,
+      one_taken (tried a.gap t a.hue a.dark) (length t / 720) light so (best_of c.if-far_enough.best) (over_light a.gap t a.hue a.dark (best_of a.kept)) (omega arith) next.0 c.loop-light.invariant.1,
       next.1,
     )
 
 pub returns : goal.returns
 returns c =
-    let l = c.before in
-    let a = l.args in
+    let a = c.args in
     let t = a.table.now in
     let end = c.loop-light-test.false in
     let whole = over_light a.gap t a.hue a.dark (best_of a.kept) in
-    record { is = all_taken (tried a.gap t a.hue a.dark) (length t / 720) l.loop-light.light (best_of l.loop-light.best) whole (omega arith) l.loop-light.invariant.1; reached = l.loop-light.invariant.2 }
+    record { is = all_taken (tried a.gap t a.hue a.dark) (length t / 720) c.loop-light.light (best_of c.loop-light.best) whole (omega arith) c.loop-light.invariant.1; reached = c.loop-light.invariant.2 }

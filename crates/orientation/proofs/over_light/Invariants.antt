@@ -8,7 +8,7 @@ use Rattle.orientation.specs.Inner.{best_of}
 use Rattle.orientation.proofs.over_light.Given as goal
 
 abbrev pub invariant-loop-light : goal.invariant-loop-light
-invariant-loop-light l = (l.light ≤ l.levels) × (loop (λ l. tried l.gap l.table l.hue l.dark l) (l.levels - l.light) l.light (best_of l.best) ≡ over_light l.gap l.table l.hue l.dark (best_of l.initial.best)) × Reached (best_of l.best)
+invariant-loop-light l = (l.light ≤ l.levels) × (loop (λ light. tried l.gap l.table l.hue l.dark light) (l.levels - l.light) l.light (best_of l.best) ≡ over_light l.gap l.table l.hue l.dark (best_of l.initial.best)) × Reached (best_of l.best)
 
 abbrev pub decreases-loop-light : goal.decreases-loop-light
 decreases-loop-light l = l.levels - l.light

@@ -1,13 +1,11 @@
 -- `orientation::over_partners` meets its contract. Where the fixed hue itself has too little, no partner changes anything; else the loop keeps the turns that are left from the best so
 -- far. Assumes nothing.
 use mathlib.Core.Path.{◌≡◌, refl, sym, ap, ◌∙◌}
-use mathlib.Core.Logic.{⊎_elim}
-use mathlib.Core.Bool.{Bool, true, false, not}
+use mathlib.Core.Bool.{Bool, true, false}
 use mathlib.Core.List.{List, [], ◌∷◌}
 use Prim.Native.Nat.{ℕ, ◌+◌, ◌-◌, ◌%◌}
 use native.Mathlib.Omega.{arith}
 use lib.Ieee.{Float}
-use borrow.Author.Tests.{not-true}
 use Rattle.gamut.specs.Table.{row_at}
 use Rattle.pair_rules.specs.Rows.{lesser, value_at}
 use Rattle.pair_rules.proofs.Rows.{common_of_two}
@@ -17,13 +15,14 @@ use Rattle.orientation_rules.specs.Orientation.{Best, found, partner_at, replace
 use Rattle.orientation_rules.proofs.Skipping.{skipped}
 use Rattle.orientation.specs.Inner.{best_of}
 use Rattle.orientation.proofs.over_partners.Goals as goal
+use Rattle.orientation.proofs.over_partners.Goals.{then-replaces, else-replaces}
 
 abbrev rows : List Float → ℕ → ℕ → List (List Float)
 rows t d l = row_at t d ∷ row_at t l ∷ []
 
 -- the fixed hue itself has too little
-too_little : (so : Best) (own value : Float) (enough : Bool) → own ≡ value → enough ≡ replaces own so → not enough ≡ true → replaces value so ≡ false
-too_little so own value enough e f g = sym (ap (λ (x : Float). replaces x so) e) ∙ sym f ∙ not-true enough g
+too_little : (so : Best) (own value : Float) (enough : Bool) → own ≡ value → enough ≡ replaces own so → enough ≡ false → replaces value so ≡ false
+too_little so own value enough e f g = sym (ap (λ (x : Float). replaces x so) e) ∙ sym f ∙ g
 
 -- one partner, by what it has with the fixed hue
 module _ (t : List Float) (hue d l on : ℕ) where
@@ -49,14 +48,12 @@ value_at-own-requires c = c.requires.there
 
 pub returns-then-not-replaces : goal.returns-then-not-replaces
 returns-then-not-replaces c =
-    let v = c.before.before in
-    let s = v.before.before in
-    let a = s.args in
-    let there = s.requires.there in
+    let a = c.args in
+    let there = c.requires.there in
     let t = a.table.now in
     let so = best_of a.kept in
-    let little = too_little so v.value_at-own.result (value_at (rows t a.dark a.light) a.hue) c.replaces.result v.value_at-own.ensures c.replaces.ensures c.if-not-replaces.true in
-    sym (skipped t s.requires.good a.hue a.dark a.light there.hue_in there.dark_in there.light_in so s.requires.reached little)
+    let little = too_little so c.value_at-own.result (value_at (rows t a.dark a.light) a.hue) c.replaces.result c.value_at-own.ensures c.replaces.ensures c.if-not-replaces.true in
+    sym (skipped t c.requires.good a.hue a.dark a.light there.hue_in there.dark_in there.light_in so c.requires.reached little)
 
 pub loop-on-init : goal.loop-on-init
 unfolding over_partners
@@ -67,37 +64,32 @@ overflow_add-partner c = let h = c.requires.there.hue_in in omega arith
 
 pub value_at-requires : goal.value_at-requires
 value_at-requires c =
-    let s = c.before.before.before.before.before.before in
-    let there = s.requires.there in
+    let there = c.requires.there in
     let on = c.loop-on.on in
     record { long = there.long; few_levels = there.few_levels; dark_in = there.dark_in; light_in = there.light_in; hue_in = omega arith }
 
 pub loop-on-preserved : goal.loop-on-preserved
 loop-on-preserved c =
-    let i = c.before.before.before.before in
-    let l = i.before in
-    let v = l.before.before.before in
-    let a = v.args in
+    let a = c.args in
     let t = a.table.now in
-    let on = l.loop-on.on in
-    let so = best_of l.loop-on.best in
+    let on = c.loop-on.on in
+    let so = best_of c.loop-on.best in
     let chroma = c.lesser-chroma.result in
-    let inside = i.loop-on-test.true in
-    let is = shared t a.hue a.dark a.light on v.value_at-own.result c.value_at.result chroma v.value_at-own.ensures c.value_at.ensures c.lesser-chroma.ensures in
+    let inside = c.loop-on-test.true in
+    let is = shared t a.hue a.dark a.light on c.value_at-own.result c.value_at.result chroma c.value_at-own.ensures c.value_at.ensures c.lesser-chroma.ensures in
     let next : best_of c.if-replaces.best ≡ tried_with t a.hue a.dark a.light (partner_at a.hue on) so =
-    ⊎_elim
-    (λ r. ap best_of r.1 ∙ better t a.hue a.dark a.light on so chroma is (sym c.replaces-in-loop-on.ensures ∙ r.0.taken))
-    (λ r. ap best_of r.1 ∙ worse t a.hue a.dark a.light on so chroma is (sym c.replaces-in-loop-on.ensures ∙ r.0.left))
-    c.if-replaces.branch in (
+    elim c.if-replaces.branch [
+      | then-replaces w ↦ ap best_of w.best-is ∙ better t a.hue a.dark a.light on so chroma is (sym c.replaces-in-loop-on.ensures ∙ w.if-replaces.true)
+      | else-replaces w ↦ ap best_of w.best-is ∙ worse t a.hue a.dark a.light on so chroma is (sym c.replaces-in-loop-on.ensures ∙ w.if-replaces.false)
+    ] in (
       omega arith,
       omega arith,
-      one_taken (turn t a.hue a.dark a.light) 420 on so (best_of c.if-replaces.best) (over_partners t a.hue a.dark a.light (best_of a.kept)) (omega arith) next l.loop-on.invariant.2,
+      one_taken (turn t a.hue a.dark a.light) 420 on so (best_of c.if-replaces.best) (over_partners t a.hue a.dark a.light (best_of a.kept)) (omega arith) next c.loop-on.invariant.2,
     )
 
 pub returns : goal.returns
 returns c =
-    let l = c.before in
-    let a = l.args in
+    let a = c.args in
     let t = a.table.now in
     let end = c.loop-on-test.false in
-    all_taken (turn t a.hue a.dark a.light) 420 l.loop-on.on (best_of l.loop-on.best) (over_partners t a.hue a.dark a.light (best_of a.kept)) (omega arith) l.loop-on.invariant.2
+    all_taken (turn t a.hue a.dark a.light) 420 c.loop-on.on (best_of c.loop-on.best) (over_partners t a.hue a.dark a.light (best_of a.kept)) (omega arith) c.loop-on.invariant.2

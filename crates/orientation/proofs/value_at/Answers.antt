@@ -7,7 +7,6 @@ use Rattle.orientation.proofs.value_at.Goals as goal
 
 pub returns : goal.returns
 returns c =
-    let s = c.before.before.before.before in
-    let a = s.args in
-    let h : a.hue < 720 = let u = s.requires.hue_in in omega arith in
+    let a = c.args in
+    let h : a.hue < 720 = let u = c.requires.hue_in in omega arith in
     rw (of_two, row_entry a.table.now a.dark a.hue h, row_entry a.table.now a.light a.hue h) c.lesser.ensures

@@ -12,10 +12,10 @@ pub float_to_bits-bits : goal.float_to_bits-bits
 float_to_bits-bits c = rw (chroma_number _ (f32 c) c.requires.0 c.requires.1) tt
 
 pub returns-then-bits-lt1115684864 : goal.returns-then-bits-lt1115684864
-returns-then-bits-lt1115684864 c = let s = c.before in units_low _ (f32 s) s.requires.0 s.requires.1 c.if-bits-lt1115684864.true
+returns-then-bits-lt1115684864 c =  units_low _ (f32 c) c.requires.0 c.requires.1 c.if-bits-lt1115684864.true
 
 pub returns-then-bits-lt1124073472 : goal.returns-then-bits-lt1124073472
-returns-then-bits-lt1124073472 c = let s = c.before.before in units_middle _ (f32 s) s.requires.0 s.requires.1 c.if-bits-lt1115684864.false c.if-bits-lt1124073472.true
+returns-then-bits-lt1124073472 c =  units_middle _ (f32 c) c.requires.0 c.requires.1 c.if-bits-lt1115684864.false c.if-bits-lt1124073472.true
 
 pub returns : goal.returns
-returns c = let s = c.before.before in units_high _ (f32 s) s.requires.0 s.requires.1 c.if-bits-lt1124073472.false
+returns c =  units_high _ (f32 c) c.requires.0 c.requires.1 c.if-bits-lt1124073472.false

@@ -12,23 +12,16 @@ pub returns-then-not-is_unbroken : goal.returns-then-not-is_unbroken
 returns-then-not-is_unbroken c = lays_broken _ _ (sym c.is_unbroken.ensures ∙ c.if-not-is_unbroken.true)
 
 pub bytes_with-requires : goal.bytes_with-requires
-bytes_with-requires c = few _ (let it : unbroken c.before.args.job ≡ true = sym c.before.is_unbroken.ensures ∙ c.before.if-not-is_unbroken.false in it)
+bytes_with-requires c = few _ (let it : unbroken c.args.job ≡ true = sym c.is_unbroken.ensures ∙ c.if-not-is_unbroken.false in it)
 
 pub returns-then-page-bytes_with : goal.returns-then-page-bytes_with
 returns-then-page-bytes_with c =
-    let b = c.before in
-    let e = b.before.before in
-    lays_short _ _ (let it : length e.before.before.before.args.job.hues ≡ 16 = search rules in it) (let it : unbroken e.args.job ≡ true = sym e.is_unbroken.ensures ∙ e.if-not-is_unbroken.false in it) (rw b.bytes_with.ensures at c.if-page-bytes_with.true)
+    lays_short _ _ (let it : length c.args.job.hues ≡ 16 = search rules in it) (let it : unbroken c.args.job ≡ true = sym c.is_unbroken.ensures ∙ c.if-not-is_unbroken.false in it) (rw c.bytes_with.ensures at c.if-page-bytes_with.true)
 
 pub put_page-requires : goal.put_page-requires
 put_page-requires c =
-    let e = c.before.before.before.before in
-    (few _ (let it : unbroken e.args.job ≡ true = sym e.is_unbroken.ensures ∙ e.if-not-is_unbroken.false in it), within _ (let it : unbroken e.args.job ≡ true = sym e.is_unbroken.ensures ∙ e.if-not-is_unbroken.false in it))
+    (few _ (let it : unbroken c.args.job ≡ true = sym c.is_unbroken.ensures ∙ c.if-not-is_unbroken.false in it), within _ (let it : unbroken c.args.job ≡ true = sym c.is_unbroken.ensures ∙ c.if-not-is_unbroken.false in it))
 
 pub returns : goal.returns
 returns c =
-    let p = c.before.before in
-    let t = p.before.before in
-    let b = t.before in
-    let e = b.before.before in
-    lays_page _ _ (let it : length e.before.before.before.args.job.hues ≡ 16 = search rules in it) (let it : unbroken e.args.job ≡ true = sym e.is_unbroken.ensures ∙ e.if-not-is_unbroken.false in it) (rw b.bytes_with.ensures at t.if-page-bytes_with.false) p.put_page.ensures
+    lays_page _ _ (let it : length c.args.job.hues ≡ 16 = search rules in it) (let it : unbroken c.args.job ≡ true = sym c.is_unbroken.ensures ∙ c.if-not-is_unbroken.false in it) (rw c.bytes_with.ensures at c.if-page-bytes_with.false) c.put_page.ensures

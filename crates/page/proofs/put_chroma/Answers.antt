@@ -5,6 +5,4 @@ use Rattle.page.proofs.put_chroma.Goals as goal
 
 pub returns : goal.returns
 returns c =
-    let p = c.before.before in
-    let q = p.before.before.before.before in
-    puts_chroma _ _ _ _ q.hundredfold-n.ensures q.put_row-next.ensures refl p.put_row.ensures refl
+    puts_chroma _ _ _ _ c.hundredfold-n.ensures c.put_row-next.ensures refl c.put_row.ensures refl

@@ -26,34 +26,27 @@ bounds-hues-i c =
 
 pub overflow_add-i : goal.overflow_add-i
 overflow_add-i c =
-    let p = c.before.before.before.before in
-    let h = p.loop-i-test.true in
-    let k = p.requires.0 in
+    let h = c.loop-i-test.true in
+    let k = c.requires.0 in
     omega arith
 
 pub loop-i-smaller : goal.loop-i-smaller
 loop-i-smaller c =
-    let p = c.before.before.before.before in
-    let h = p.loop-i-test.true in
+    let h = c.loop-i-test.true in
     omega arith
 
 pub loop-i-preserved : goal.loop-i-preserved
 loop-i-preserved c =
-    let q = c.before.before in
-    let p = q.before.before in
-    let s = p.before.before.before in
-    let h = p.loop-i-test.true in
-    let k = s.requires.0 in
-    let n : length s.args.t3 ≡ 16 = search rules in
-    (omega arith, puts_hue s.args.t3 p.loop-i.i (omega arith) p.loop-i.invariant.1 q.put_hue-to.ensures)
+    let h = c.loop-i-test.true in
+    let k = c.requires.0 in
+    let n : length c.args.t3 ≡ 16 = search rules in
+    (omega arith, puts_hue c.args.t3 c.loop-i.i (omega arith) c.loop-i.invariant.1 c.put_hue-to.ensures)
 
 pub shape_of-page : goal.shape_of-page
 shape_of-page c = put_kept c.loop-i.invariant.1
 
 pub returns : goal.returns
 returns c =
-    let p = c.before in
-    let s = p.before.before in
     let h = c.loop-i-test.false in
-    let e : p.loop-i.i ≡ s.args.k = let i = p.loop-i.invariant.0 in omega arith in
-    rw e at p.loop-i.invariant.1
+    let e : c.loop-i.i ≡ c.args.k = let i = c.loop-i.invariant.0 in omega arith in
+    rw e at c.loop-i.invariant.1

@@ -7,6 +7,4 @@ use Rattle.page.proofs.put_none.Goals as goal
 
 pub returns : goal.returns
 returns c =
-    let p = c.before.before in
-    let q = p.before.before.before.before in
-    puts_two (row hues_word _) (row none_word _) q.put_row-next.ensures (puts_word none_word _ p.put_row.ensures refl)
+    puts_two (row hues_word _) (row none_word _) c.put_row-next.ensures (puts_word none_word _ c.put_row.ensures refl)
