@@ -1,6 +1,5 @@
 -- `lamp_input::read_ask` meets its contract: what was read, with the rest of the line, says what the line asks. Assumes nothing.
 use mathlib.Core.Path.{sym, ◌∙◌}
-use Prim.Native.Nat.{◌-◌}
 use Rattle.lamp_input.proofs.Steps.{no_ask, is_line, next, last}
 use Rattle.lamp_input.proofs.read_ask.Goals as goal
 

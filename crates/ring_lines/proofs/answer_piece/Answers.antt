@@ -1,6 +1,6 @@
 -- `ring_lines::answer_piece` meets its contract. The invariant: what is held and what is written are those of the bytes below `at`. Assumes nothing.
 use mathlib.Core.Path.{◌≡◌, refl}
-use Prim.Native.Nat.{◌-◌, ◌≤◌, ◌<◌}
+use Prim.Native.Nat.{◌≤◌, ◌<◌}
 use lib.ListN.{length}
 use borrow.Author.Rules.{rules}
 use native.Mathlib.Omega.{arith}
@@ -32,9 +32,9 @@ loop-at-preserved c =
     let o : length c.args.out.now ≡ 65536 = search rules in
     let wide : length c.loop-at.out ≡ 65536 = omega arith in
     elim c.if-byte-eq10.branch [
-      then-byte-eq10 w ↦
+      | then-byte-eq10 w ↦
           rw (w.buffer-is, w.count-is, w.out-is, w.end-is) (newline_taken c.loop-at.invariant _ h refl g (rw w.buffer-is at c.if-byte-eq10.array_long) wide w.if-byte-eq10.true w.put_answer-end.ensures)
-    | else-byte-eq10 w ↦ rw (w.buffer-is, w.count-is, w.out-is, w.end-is) (other_taken c.loop-at.invariant _ h refl g w.if-byte-eq10.false w.keep-count.ensures)
+      | else-byte-eq10 w ↦ rw (w.buffer-is, w.count-is, w.out-is, w.end-is) (other_taken c.loop-at.invariant _ h refl g w.if-byte-eq10.false w.keep-count.ensures)
     ]
 
 pub returns-else-end-le65472 : goal.returns-else-end-le65472

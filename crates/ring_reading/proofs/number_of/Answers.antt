@@ -1,6 +1,6 @@
 -- `ring_reading::number_of` meets its contract: each return has its law of the bytes that led there. Assumes nothing.
 use mathlib.Core.Path.{sym, ◌∙◌}
-use Rattle.ring_reading.proofs.Places.{Two, found_one, found_zero, found_second, found_two, found_third, found_three, found_four}
+use Rattle.ring_reading.proofs.Places.{found_one, found_zero, found_second, found_two, found_third, found_three, found_four}
 use Rattle.ring_reading.proofs.number_of.Goals as goal
 
 pub value-requires : goal.value-requires

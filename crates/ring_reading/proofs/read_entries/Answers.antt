@@ -1,7 +1,5 @@
 -- `ring_reading::read_entries` meets its contract. The invariant: i entries are read, and what the fields that are left must be is known. Assumes nothing.
 use mathlib.Core.Path.{refl}
-use Prim.Native.Nat.{◌-◌}
-use native.Mathlib.Omega.{arith}
 use Rattle.ring_reading.specs.Inner.{Finds}
 use Rattle.ring_reading.specs.declared.Field.TheVariants.{Number}
 use Rattle.ring_reading.proofs.Places.{told}

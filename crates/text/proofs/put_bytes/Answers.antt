@@ -1,6 +1,5 @@
 -- `text::put_bytes` meets its contract. The invariant: the bytes below i are copied. Assumes nothing.
 use mathlib.Core.Path.{refl}
-use Prim.Native.Nat.{◌-◌}
 use native.Mathlib.Omega.{arith}
 use lib.ListN.{length-set}
 use lib.Seq.{paste-zero}
