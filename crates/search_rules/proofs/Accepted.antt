@@ -2,7 +2,7 @@
 -- `search_exactly`), and document 01's start was exactly on document 01's (`began_exactly`). Below 40 a start and a search are refused by 2 (`below_40`). Assumes nothing.
 use mathlib.Core.Path.{◌≡◌, refl, sym, ◌∙◌, subst}
 use mathlib.Core.Logic.{◌↔◌}
-use mathlib.Core.Bool.{Bool, true, false, ◌&&◌, cond, and-false}
+use mathlib.Core.Bool.{Bool, true, false, cond, and-false}
 use mathlib.Core.List.{List, [], ◌∷◌}
 use Prim.Native.Nat.{ℕ, ◌*◌, ◌/◌, ◌%◌, ◌≤◌, ◌<◌}
 use native.Mathlib.Nat.{mod-lt, div-lt_iff_lt-mul}
@@ -23,7 +23,7 @@ use Rattle.placement_rules.specs.Placing.{work_needed}
 use Rattle.placement_rules.proofs.Room.{one_lap}
 use Rattle.search_rules.specs.declared.Settings.{Settings}
 use Rattle.search_rules.specs.declared.Job.{Job}
-use Rattle.search_rules.specs.Job.{gap_starts, gap_held, begun, start_checked_by, start_checked, start_says, began_says, qualifies, moved_on, after_pair, pair_best, searched, step_checked, step_says, steps_from, search_says}
+use Rattle.search_rules.specs.Job.{gap_starts, gap_held, begun, start_checked_by, start_checked, start_says, began_says, qualifies, pair_best, searched, step_checked, step_says, steps_from, search_says}
 use Rattle.search_rules.specs.Runs.{FarApart}
 use Rattle.search_rules.specs.Accepted.{Accepted, Between, EachTaken, TakenWith, FromForty, StartTaken, FromZero, BeganTaken, Unbroken, StepTaken}
 use Rattle.search_rules.proofs.Apart.{far_apart, qualified}

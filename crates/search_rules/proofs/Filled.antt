@@ -1,17 +1,16 @@
 -- Req 07: after a list of calls as in demand 3 the record is the same record with its smallest gap worked out from its hues (`kept_filled`): who fills it in lends exactly what
 -- the promise is about. And whatever that field is of a record, as long as number 15 takes it, a call gives the same refusal or leaves the same job but for that field
 -- (`answers_same`), and so it is after any list of calls (`others_same`). Assumes nothing.
-use mathlib.Core.Path.{◌≡◌, refl, sym, ap, ◌∙◌, subst}
+use mathlib.Core.Path.{◌≡◌, refl, sym, ap, ◌∙◌}
 use mathlib.Core.Bool.{Bool, true, false, ◌&&◌, cond}
 use mathlib.Core.List.{List, [], ◌∷◌}
-use Prim.Native.Nat.{ℕ, ◌+◌, ◌*◌, ◌/◌, ◌%◌}
+use Prim.Native.Nat.{ℕ, ◌*◌, ◌/◌, ◌%◌}
 use lib.Dec.{leb, ltb, eqb}
 use lib.Ieee.{Float}
 use lib.ListN.{length, take}
 use Rattle.limits.specs.Answers.{Said, value, refused}
-use Rattle.limits.specs.Taken.{hue_count_taken, entry_taken, every}
+use Rattle.limits.specs.Taken.{hue_count_taken}
 use Rattle.limits.specs.Each.{Each, F32}
-use Rattle.gamut.specs.Table.{row_at}
 use Rattle.placement_rules.specs.Placing.{work_needed}
 use Rattle.placement_rules.specs.Gaps.{tightest}
 use Rattle.pair_rules.specs.Pair as pair

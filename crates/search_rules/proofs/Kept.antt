@@ -1,15 +1,15 @@
 -- The promise of demand 3 is kept by an accepted step, whatever the record was as long as the promise held of it (`step_kept`), and opened by an accepted start
 -- (`began_kept`, for document 01's start, which took all that a start takes). Assumes nothing.
 use mathlib.Core.Path.{◌≡◌, refl, sym, ap, ◌∙◌, subst}
-use mathlib.Core.Bool.{Bool, true, false, ◌&&◌, cond}
+use mathlib.Core.Bool.{Bool, true, false, cond}
 use mathlib.Core.List.{List, [], ◌∷◌}
 use Prim.Native.Nat.{ℕ, suc, ◌+◌, ◌*◌, ◌/◌, ◌%◌, ◌≤◌, ◌<◌}
 use native.Mathlib.Nat.{mod-lt, div-lt_iff_lt-mul, div-add-mod', not-suc-le-zero}
 use native.Mathlib.Omega.{arith}
 use lib.Ieee.{Float, binary32, to_bits, lt, le}
 use lib.ListN.{length, take}
-use Rattle.limits.specs.Answers.{value, refused}
-use Rattle.limits.specs.Taken.{f32_of, hue_count_taken, entry_taken, every}
+use Rattle.limits.specs.Answers.{value}
+use Rattle.limits.specs.Taken.{f32_of, hue_count_taken}
 use Rattle.limits.specs.Each.{Each, F32}
 use Rattle.limits.proofs.Floats.{never}
 use Rattle.limits.proofs.HueCount.{hue_count, count_taken}
@@ -28,7 +28,7 @@ use Rattle.search_rules.specs.declared.Settings.{Settings}
 use Rattle.search_rules.specs.declared.Best.{Best}
 use Rattle.search_rules.specs.declared.Best.TheVariants.{None, Found}
 use Rattle.search_rules.specs.declared.Job.{Job}
-use Rattle.search_rules.specs.Job.{gap_held, best_held, unbroken, qualifies, floor_of, beats, moved_on, replaced, after_pair, pair_best, searched, step_checked, step_says, began_says}
+use Rattle.search_rules.specs.Job.{gap_held, best_held, unbroken, qualifies, floor_of, beats, moved_on, replaced, pair_best, searched, step_checked, step_says, began_says}
 use Rattle.search_rules.specs.Runs.{Choice, common_of, Promise}
 use Rattle.search_rules.proofs.Apart.{far_apart, qualified}
 use Rattle.search_rules.proofs.Checking.{step_checks, step_passed, both_rows, goes_on, searched_is}

@@ -2,18 +2,17 @@
 -- table's entries (`finished_is_loops`). So what `search` says is that too (`search_is_loops`, and `accepted_is_loops` wherever it is accepted). These two ask for f32 entries:
 -- that no step on the way is refused by number 15 rests on a pair's chroma lying from 35 to 200, which is proved for f32. Assumes nothing.
 use mathlib.Core.Path.{◌≡◌, refl, sym, ap, ◌∙◌, subst}
-use mathlib.Core.Bool.{Bool, true, false, ◌&&◌, cond}
+use mathlib.Core.Bool.{Bool, true, false, cond}
 use mathlib.Core.List.{List}
 use Prim.Native.Nat.{ℕ, suc, ◌+◌, ◌*◌, ◌/◌, ◌%◌, ◌≤◌}
 use native.Mathlib.Nat.{zero-mul}
 use native.Mathlib.Omega.{arith}
 use lib.Ieee.{Float}
 use lib.ListN.{length, take, replicate, length-replicate}
-use Rattle.limits.specs.Answers.{value, refused}
-use Rattle.limits.specs.Taken.{entry_taken, every}
+use Rattle.limits.specs.Answers.{value}
 use Rattle.limits.specs.Each.{Each, F32}
 use Rattle.limits.proofs.Checks.{all_pass, differ}
-use Rattle.gamut.specs.Table.{levels_in, row_at}
+use Rattle.gamut.specs.Table.{levels_in}
 use Rattle.placement_rules.specs.Placing.{work_needed}
 use Rattle.placement_rules.specs.Gaps.{tightest}
 use Rattle.pair_rules.specs.Pair as pair
@@ -21,7 +20,7 @@ use Rattle.pair_rules.specs.Pair.{none, found}
 use Rattle.search_rules.specs.declared.Settings.{Settings}
 use Rattle.search_rules.specs.declared.Best.TheVariants.{Found}
 use Rattle.search_rules.specs.declared.Job.{Job}
-use Rattle.search_rules.specs.Job.{begun, began_says, qualifies, beats, moved_on, replaced, after_pair, pair_best, searched, step_checked, step_says, job_after, search_says}
+use Rattle.search_rules.specs.Job.{begun, began_says, qualifies, beats, moved_on, replaced, pair_best, searched, step_checked, step_says, job_after, search_says}
 use Rattle.search_rules.specs.Runs.{Call, run, since, history, OverOneTable, whole_search}
 use Rattle.search_rules.specs.Accepted.{Accepted, StartTaken}
 use Rattle.search_rules.specs.Loops.{Solution, unsolved, improved, tried, loop, over_light, two_loops}

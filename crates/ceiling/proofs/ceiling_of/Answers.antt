@@ -1,6 +1,6 @@
 -- `ceiling::ceiling_of` meets its contract: the loop keeps the turns that are left from the ceiling so far. Assumes nothing.
 use mathlib.Core.Path.{◌≡◌, refl, ap, ◌∙◌}
-use Prim.Native.Nat.{ℕ, ◌-◌, ◌*◌, ◌/◌, ◌%◌, ◌≤◌, ◌<◌}
+use Prim.Native.Nat.{ℕ, ◌*◌, ◌/◌, ◌%◌, ◌≤◌, ◌<◌}
 use native.Mathlib.Nat.{mod-lt, div-lt_iff_lt-mul}
 use native.Mathlib.Omega.{arith}
 use mathlib.Core.Bool.{true, cond}
@@ -11,7 +11,6 @@ use Rattle.pair_rules.specs.Rows.{lesser, largest}
 use Rattle.search_rules.specs.declared.Settings.{Settings}
 use Rattle.search_rules.specs.declared.Job.{Job}
 use Rattle.search_rules.specs.Job.{qualifies, unbroken}
-use Rattle.search_rules.specs.Loops.{loop}
 use Rattle.search_rules.proofs.Unbroken.{sound, square}
 use Rattle.search_rules.proofs.Turns.{one_taken, all_taken}
 use Rattle.ceiling_rules.specs.Ceiling.{Ceiling, top_at, raised, with_pair, ceiling_from}

@@ -1,6 +1,5 @@
 -- `page::put_hues` meets its contract. The invariant: i hues are put. Assumes nothing.
 use mathlib.Core.Path.{◌≡◌}
-use Prim.Native.Nat.{◌-◌}
 use native.Mathlib.Omega.{arith}
 use lib.ListN.{length}
 use borrow.Author.Rules.{rules}
@@ -39,8 +38,8 @@ pub loop-i-preserved : goal.loop-i-preserved
 loop-i-preserved c =
     let h = c.loop-i-test.true in
     let k = c.requires.0 in
-    let n : length c.args.t3 ≡ 16 = search rules in
-    (omega arith, puts_hue c.args.t3 c.loop-i.i (omega arith) c.loop-i.invariant.1 c.put_hue-to.ensures)
+    let n : length c.args.hues ≡ 16 = search rules in
+    (omega arith, puts_hue c.args.hues c.loop-i.i (omega arith) c.loop-i.invariant.1 c.put_hue-to.ensures)
 
 pub shape_of-page : goal.shape_of-page
 shape_of-page c = put_kept c.loop-i.invariant.1

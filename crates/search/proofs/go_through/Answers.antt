@@ -1,10 +1,8 @@
 -- `search::go_through` meets its contract: each answer of the pair is carried over to the job. Assumes nothing.
-use mathlib.Core.Path.{◌≡◌, refl, sym, ◌∙◌}
-use mathlib.Core.Bool.{true}
+use mathlib.Core.Path.{refl, sym, ◌∙◌}
 use native.Mathlib.Omega.{arith}
 use Rattle.limits.specs.Refusals.{number}
 use Rattle.limits.proofs.Checks.{said_twice}
-use Rattle.search_rules.specs.Job.{qualifies}
 use Rattle.search_rules.proofs.Unbroken.{sound}
 use Rattle.search.proofs.Going.{passed_over, went_refused, given_refused, went_nowhere, went_better, went_worse}
 use Rattle.search.proofs.Giving.{accepting, refusing}

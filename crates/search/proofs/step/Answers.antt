@@ -5,7 +5,6 @@ use native.Mathlib.Nat.{div-lt_iff_lt-mul, mod-lt}
 use native.Mathlib.Omega.{arith}
 use lib.ListN.{length}
 use Rattle.search_rules.specs.Job.{searched, step_says, Gives}
-use Rattle.search_rules.proofs.Checking.{StepPassed}
 use Rattle.search_rules.proofs.Unbroken.{sound, square}
 use Rattle.search.proofs.Checking.{step_fine, step_wrong, step_known}
 use Rattle.search.proofs.Giving.{refusing}

@@ -1,6 +1,6 @@
 -- `search_checks::holds_best` meets its contract: its four tests are those of the specification. Assumes nothing.
 use mathlib.Core.Path.{◌≡◌, sym, ap, ◌∙◌}
-use mathlib.Core.Bool.{Bool, true, false, ◌&&◌, and_assoc}
+use mathlib.Core.Bool.{Bool, ◌&&◌, and_assoc}
 use lib.Dec.{ltb}
 use lib.Ieee.{of_bits, of_int, neg, le}
 use Rattle.limits.specs.Taken.{f32_of}
