@@ -30,7 +30,7 @@ loop-i-preserved c =
 pub returns : goal.returns
 returns c =
     let l = c.before in
-    let colors = l.args.t1 in
+    let colors = l.args.colors in
     let hexes = l.loop-i.hexes in
     let e = l.loop-i.invariant.1 in
     let h = c.loop-i-test.false in

@@ -27,20 +27,12 @@ module _ {s : Said (Best × Ceiling)} (old : List Float) where
 
 pub returns-in-Refused : goal.returns-in-Refused
 returns-in-Refused c =
-    let a = c.before.before in
-    let call = a.before.before in
-    let b = call.before in
-    rw b.best_of.ensures at (refused_gives b.args.ceiling.now _ _ c.number.ensures (said a.in-Refused.is call.look_ahead-outlook.ensures))
+    rw c.best_of.ensures at (refused_gives c.args.ceiling.now _ _ c.number.ensures (said c.in-Refused.is c.look_ahead-outlook.ensures))
 
 pub returns-in-Through : goal.returns-in-Through
 returns-in-Through c =
-    let call = c.before.before in
-    let b = call.before in
-    rw b.best_of.ensures at (none_gives b.args.ceiling.now _ (said c.in-Through.is call.look_ahead-outlook.ensures))
+    rw c.best_of.ensures at (none_gives c.args.ceiling.now _ (said c.in-Through.is c.look_ahead-outlook.ensures))
 
 pub returns-in-Ahead : goal.returns-in-Ahead
 returns-in-Ahead c =
-    let a = c.before.before in
-    let call = a.before.before in
-    let b = call.before in
-    rw b.best_of.ensures at (ceiling_gives b.args.ceiling.now _ _ (said a.in-Ahead.is call.look_ahead-outlook.ensures))
+    rw c.best_of.ensures at (ceiling_gives c.args.ceiling.now _ _ (said c.in-Ahead.is c.look_ahead-outlook.ensures))

@@ -25,14 +25,8 @@ module _ (j : Job) (page written : List ℕ) {after : List ℕ} (left : after �
 
 pub returns-in-Refused : goal.returns-in-Refused
 returns-in-Refused c =
-    let a = c.before.before in
-    let call = a.before.before.before.before in
-    let b = call.before.before in
-    rw b.best_of.ensures at (refused_gives _ _ b.args.written.now call.lay_out-laid.ensures.1 _ _ c.number.ensures (said a.in-Refused.is call.lay_out-laid.ensures.0))
+    rw c.best_of.ensures at (refused_gives _ _ c.args.written.now c.lay_out-laid.ensures.1 _ _ c.number.ensures (said c.in-Refused.is c.lay_out-laid.ensures.0))
 
 pub returns-in-Bytes : goal.returns-in-Bytes
 returns-in-Bytes c =
-    let a = c.before.before in
-    let call = a.before.before.before.before in
-    let b = call.before.before in
-    rw b.best_of.ensures at (page_gives _ _ b.args.written.now call.lay_out-laid.ensures.1 _ (said a.in-Bytes.is call.lay_out-laid.ensures.0))
+    rw c.best_of.ensures at (page_gives _ _ c.args.written.now c.lay_out-laid.ensures.1 _ (said c.in-Bytes.is c.lay_out-laid.ensures.0))
