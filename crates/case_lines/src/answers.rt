@@ -195,7 +195,7 @@ fn say_first(rt: &impl Print, bytes: [u8; ROOM], length: usize) {
     }
 }
 
-// Writes bytes to standard output, as many as it takes.
+// Writes bytes to standard output; where that fails, those left are not written.
 pub fn say(rt: &impl Print, bytes: &[u8]) {
     let _ = rt.write_all(bytes);
 }
