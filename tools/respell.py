@@ -4,7 +4,7 @@
 usage: python3 tools/respell.py        at the top of a checkout, once, right after port.py (docs/PORT.md)
 
 It goes by text, over crates/, README.md, CONTRIBUTING.md, docs/ and the comments of compare/. A name is turned where it is declared in specs/ or in a
-file of lemmas; names that Rattle makes for goals and steps are left (their files are written anew). Must-fail edits: respell_edits.py.
+file of lemmas; names that Rattle makes for goals and steps are left (their files are written anew). Must-fail edits are not turned here: docs/PORT.md says how.
 """
 import collections
 import glob
