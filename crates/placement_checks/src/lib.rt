@@ -44,6 +44,7 @@ fn between(x: usize, most: usize) -> bool
 }
 
 // The first refusal that applies to a placement, of 1, 3, 4, 5, 7 and 8.
+#[tactic(auto, unfolding(placement_rules::specs::Placing::checked, placement_rules::specs::Placing::work_needed))]
 pub fn check(m: &[f32], c: f32, k: usize, step: usize, room: usize) -> Checked
     ensures { check_said result ≡ checked k step c m.now room (value tt) }
 {

@@ -1,4 +1,5 @@
 -- `gamut::max_chroma` meets its contract. The invariant: what is left of the 40 halvings, from lo to hi, ends where all of them do, and lo and hi are f32 from 0 to 200. A round
+-- whose midpoint is an end and moves nothing leaves the rest unchanged. Assumes nothing.
 use mathlib.Core.Path.{◌≡◌}
 use Prim.Native.Nat.{◌-◌, ◌≤◌}
 use Rattle.limits.specs.Taken.{f32_of}

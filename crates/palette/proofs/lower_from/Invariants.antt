@@ -1,4 +1,5 @@
 -- `palette::lower_from` meets its contract. The invariant: from the chroma at hand, with the last finding, back-off ends where it ends from the first. The measure is the bit
+-- pattern of the chroma. Assumes nothing.
 use mathlib.Core.Path.{◌≡◌}
 use Prim.Native.Nat.{ℕ}
 use lib.Ieee.{binary32, to_bits}
