@@ -113,6 +113,7 @@ fn fill(l: f32, cos: &[f32], sin: &[f32], row: &mut [f32])
 }
 
 // Fills the row of one level, by 720 lent directions.
+#[tactic(auto, unfolding(crate::specs::Gamut::fill_says, crate::specs::Gamut::row_after))]
 pub fn fill_row(level: usize, cos: &[f32], sin: &[f32], row: &mut [f32]) -> Filling
     ensures { (fill_said result ≡ fill_says level cos.now sin.now row.old)
         × (row.new ≡ row_after level cos.now sin.now row.old) }
