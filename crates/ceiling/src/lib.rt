@@ -16,6 +16,7 @@ use limits::{Checked, Refusal};
 use search_rules::{Job, Settings};
 
 // The first refusal of a call, of 15, 6 and 7 over the whole table.
+#[tactic(auto, unfolding(ceiling_rules::specs::Ceiling::outlook_checked))]
 fn check(job: Job, table: &[f32]) -> Checked
     ensures { check_said result ≡ outlook_checked job table.now (value tt) }
 {

@@ -23,8 +23,6 @@ module _ (b : Bool) (q : b ≡ true) (x y : Float) (next so : Ceiling) where
 pub returns-then-not-qualifies : goal.returns-then-not-qualifies
 returns-then-not-qualifies c = passed _ _ _ (sym c.qualifies.ensures ∙ c.if-not-qualifies.true)
 
--- the pair qualifies
-
 pub returns-then-b-a : goal.returns-then-b-a
 returns-then-b-a c =
     second _ (let it : let a = c.args in qualifies a.settings a.dark a.light ≡ true = sym c.qualifies.ensures ∙ c.if-not-qualifies.false in it) _ _ _ (top_said c.args.so) c.if-b-a.true c.raised.ensures
