@@ -24,6 +24,7 @@ pub struct Design {
 }
 
 // Whether the first k of sixteen hue indices are at most 719.
+#[tactic(auto, using(crate::proofs::Hues::next, crate::proofs::Hues::fails, crate::proofs::Hues::none_asked, crate::proofs::Hues::none_left))]
 fn takes_hues(k: usize, hues: [u16; 16]) -> bool
     ensures { result ≡ hues_taken k hues }
 {

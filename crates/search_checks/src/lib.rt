@@ -70,6 +70,7 @@ fn handed(k: usize, best: Best) -> usize
 }
 
 // Whether the smallest gap beside a best so far is in its range, or 0 where there is none.
+#[tactic(auto, unfolding(search_rules::specs::Job::tightest_held))]
 fn holds_tightest(best: Best, tightest: usize) -> bool
     ensures { result ≡ tightest_held best tightest }
 {
