@@ -53,6 +53,7 @@ fn replaces(chroma: f32, kept: Kept) -> bool
 }
 
 // The lesser of two numbers.
+#[tactic(auto, unfolding(pair_rules::specs::Rows::lesser))]
 fn lesser(x: f32, y: f32) -> f32
     ensures { result ≡ lesser x y }
 {
