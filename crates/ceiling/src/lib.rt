@@ -90,6 +90,7 @@ fn raised(x: f32, so: Top) -> Top
 }
 
 // The ceiling so far with one more pair of levels, of which the dark row's largest entry is a and the light row's b.
+#[tactic(auto, unfolding(pair_rules::specs::Rows::lesser))]
 fn with_pair(settings: Settings, dark: usize, light: usize, a: f32, b: f32, so: Top) -> Top
     requires { (dark < 169) × (light < 169) }
     ensures { top_said result ≡ cond (qualifies settings dark light) (raised (lesser a b) (top_said so)) (top_said so) }

@@ -109,6 +109,7 @@ fn after_whole(k: u32, n: u32, byte: u8) -> Part
 }
 
 // With one more byte behind the point.
+#[tactic(auto, unfolding(crate::specs::Ask::decimals_from), using(crate::proofs::Steps::adds))]
 fn after_point(k: u32, n: u32, unit: u32, byte: u8) -> Part
     requires { n + 10 * unit ≤ 10000000 }
     ensures { (Within result) × ((text : List ℕ) → rest result text ≡ decimals_from k n unit (byte ∷ text)) }

@@ -15,6 +15,7 @@ use limits::{Checked, Refusal};
 pub use orientation_rules::{Answer, Oriented};
 
 // The first refusal of a call, of 2, 6, 7 over the whole table and 12.
+#[tactic(auto, unfolding(orientation_rules::specs::Orientation::orientation_checked))]
 fn check(gap: f32, table: &[f32], hue: usize) -> Checked
     ensures { check_said result ≡ orientation_checked gap table.now hue (value tt) }
 {
@@ -53,6 +54,7 @@ fn replaces(chroma: f32, kept: Kept) -> bool
 }
 
 // The lesser of two numbers.
+#[tactic(auto, unfolding(pair_rules::specs::Rows::lesser))]
 fn lesser(x: f32, y: f32) -> f32
     ensures { result ≡ lesser x y }
 {

@@ -78,6 +78,7 @@ fn value(byte: u8) -> u16
 }
 
 // The field that starts at a place of any line that has these four bytes there, of which the first is a digit.
+#[tactic(auto, using(crate::proofs::Places::found_zero, crate::proofs::Places::found_second, crate::proofs::Places::found_third, crate::proofs::Places::found_four))]
 fn number_of(a: u8, b: u8, c: u8, d: u8, at: usize) -> Field
     requires { (is_digit a ≡ true) × (at + 4 ≤ 18446744073709551615) }
     ensures { (line : List ℕ) → Bytes line at a b c d → Finds line at result }
