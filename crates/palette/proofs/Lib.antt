@@ -3,3 +3,4 @@ pub mod Checking
 pub mod Ready
 pub mod Colors
 pub mod Lowering
+pub mod Findings

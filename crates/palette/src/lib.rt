@@ -225,6 +225,7 @@ fn measure(k: usize, colors: [Srgb8; 32], cos: &[f32], sin: &[f32]) -> Metrics
 }
 
 // The first finding, in the order tested.
+#[tactic(auto, using(crate::proofs::Findings::finds_gap, crate::proofs::Findings::finds_spread, crate::proofs::Findings::finds_separation, crate::proofs::Findings::finds_chroma, crate::proofs::Findings::passes_one, crate::proofs::Findings::passes_more))]
 fn first_finding(k: usize, m: Metrics) -> Verdict
     requires { k ≤ 16 }
     ensures { verdict_said result ≡ first_of (findings k m) }
