@@ -8,7 +8,8 @@ use Rattle.limits.specs.Taken.{root_operand_taken}
 use Rattle.std.specs.Prelude.{Result, Ok, Err}
 use Rattle.std.specs.Result.{result_unwrap_or}
 use Rattle.limits.specs.declared.Refusal.{Refusal}
-use Rattle.roots.specs.Roots.{said, root_of, root_says}
+use Rattle.limits.specs.Refusals.{said}
+use Rattle.roots.specs.Roots.{root_of, root_says}
 use Rattle.color.specs.Color.{root_inside}
 
 pub inside : (n : ℕ) (x : Float) (root : Result Float Refusal) → said root ≡ root_says n x → result_unwrap_or root x ≡ root_inside n x

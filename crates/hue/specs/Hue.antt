@@ -1,13 +1,11 @@
 -- Document 01's stand-in for `atan2`: x(j) = cos(j) × b - sin(j) × a; the first j with x(j) ≥ 0 and x(j+1) < 0, 720 counting as 0;
 -- with y = -x(j+1) the hue is 0.5 × (j + x / (x + y)); no such j gives 0. Definitions only.
-use Rattle.std.specs.Prelude.{ℕ, zero, suc, ◌+◌, ◌%◌, Bool, false, ◌&&◌, cond, List, [], ◌∷◌, leb, Float, Result, Ok, Err, get_or}
+use Rattle.std.specs.Prelude.{ℕ, zero, suc, ◌+◌, ◌%◌, Bool, false, ◌&&◌, cond, List, [], ◌∷◌, leb, Float, get_or}
 use Rattle.std.specs.Float.{nan, binary32}
 use Rattle.std.specs.Float.Ieee.{round, add, sub, mul, div, neg, lt, le}
 use Rattle.limits.specs.Answers.{Said, value, refused}
-use Rattle.limits.specs.Refusals.{number}
 use Rattle.limits.specs.Taken.{f32_of, directions_taken, hue_operand_taken}
 use Rattle.srgb.specs.declared.Srgb8.{Srgb8}
-use Rattle.limits.specs.declared.Refusal.{Refusal}
 use Rattle.color.specs.Color.{srgb8_to_lab}
 
 -- x(j)
@@ -43,11 +41,6 @@ hue_from cs ss a b (suc n) j =
 -- among all 720
 unfoldable pub hue_of : List Float → List Float → Float → Float → Float
 hue_of cs ss a b = hue_from cs ss a b 720 0
-
--- what a result says
-abbrev pub said : {A : Type 0} → Result A Refusal → Said A
-said (Ok x) = value x
-said (Err w) = refused (number w)
 
 -- refusals 9, then 16
 unfoldable pub hue_says : List Float → List Float → Float → Float → Said Float

@@ -3,7 +3,8 @@
 #![tactic(auto)]
 
 ghost use Rattle.std.specs.Prelude.{◌≡◌, length, ◌≤◌, ◌<◌};
-ghost use Rattle.hue.specs.Hue.{said, side_at, changes, hue_of, hue_says, color_hues, hues_says};
+ghost use Rattle.limits.specs.Refusals.{said};
+ghost use Rattle.hue.specs.Hue.{side_at, changes, hue_of, hue_says, color_hues, hues_says};
 
 use color::Lab;
 use limits::Refusal;

@@ -5,8 +5,9 @@
 #![tactic(auto)]
 
 ghost use Rattle.std.specs.Prelude.{◌≡◌, ◌⊎◌, ◌+◌, ◌*◌, ◌^◌, ◌≤◌, ◌<◌};
+ghost use Rattle.limits.specs.Refusals.{said};
 ghost use Rattle.halving.specs.Patterns.{worth, least, half_way};
-ghost use Rattle.roots.specs.Roots.{said, root_says};
+ghost use Rattle.roots.specs.Roots.{root_says};
 
 use limits::Refusal;
 
