@@ -6,7 +6,7 @@ ghost use Rattle.std.specs.Prelude.{◌≡◌, leb, take};
 ghost use Rattle.std.specs.List.{list_all};
 ghost use Rattle.limits.specs.Answers.{value};
 ghost use Rattle.limits.specs.Refusals.{said};
-ghost use Rattle.palette_checks.specs.Designs.{hues_taken, design_checked};
+ghost use Rattle.palette_checks.specs.Designs.{design_checked};
 
 use gamut::Gamut;
 use limits::Refusal;
