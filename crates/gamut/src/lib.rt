@@ -6,7 +6,7 @@
 ghost use Rattle.std.specs.Prelude.{◌≡◌, ◌≤◌, length};
 ghost use Rattle.limits.specs.Answers.{value};
 ghost use Rattle.limits.specs.Refusals.{said};
-ghost use Rattle.gamut.specs.Gamut.{level_of, max_chroma, fill_said, fill_says, row_after, row_of};
+ghost use Rattle.gamut.specs.Gamut.{level_of, max_chroma, fill_says, row_after, row_of};
 ghost use Rattle.gamut.specs.Table.{table_taken, table_checked};
 
 use limits::Refusal;
@@ -62,15 +62,6 @@ pub fn check_table(table: &[f32]) -> Result<(), Refusal>
     Ok(())
 }
 
-// Whether a row was filled, or why not.
-#[derive(Clone, Copy)]
-pub enum Filling {
-    // every entry of the row is written
-    Filled,
-    // refused by 9, 10 or 11: the row is as before
-    Refused(Refusal),
-}
-
 // The chroma at lightness l in the direction (cos, sin) that 40 halvings from 0 to 200 end at, or 200 where that is in gamut. More may
 // be in gamut beyond a part that is not. A round whose midpoint is an end and moves nothing is the last.
 pub fn max_chroma(l: f32, cos: f32, sin: f32) -> f32
@@ -81,24 +72,21 @@ pub fn max_chroma(l: f32, cos: f32, sin: f32) -> f32
     }
     let mut lo = 0.0f32;
     let mut hi = Gamut::C_PROBE;
-    let mut i: u32 = 0;
-    while i < 40 {
+    for _ in 0..40u32 {
         let mid = halving::midpoint(lo, hi);
         if color::lch_in_gamut(l, mid, cos, sin) {
-            if f32::to_bits(mid) == f32::to_bits(lo) {
+            if mid.to_bits() == lo.to_bits() {
                 return lo;
             }
             lo = mid;
         } else {
-            if f32::to_bits(mid) == f32::to_bits(hi) {
+            if mid.to_bits() == hi.to_bits() {
                 return lo;
             }
             hi = mid;
         }
-        i += 1;
     }
-    let chroma = lo;
-    chroma
+    lo
 }
 
 // Writes the entries of the row at lightness l.
@@ -106,28 +94,26 @@ fn fill(l: f32, cos: &[f32], sin: &[f32], row: &mut [f32])
     requires { (length cos.now ≡ 720) × ((length sin.now ≡ 720) × (length row.old ≡ 720)) }
     ensures { row.new ≡ row_of l cos.now sin.now }
 {
-    let mut j: usize = 0;
-    while j < 720 {
-        row[j] = max_chroma(l, cos[j], sin[j]);
-        j += 1;
+    for (j, entry) in row.iter_mut().enumerate() {
+        *entry = max_chroma(l, cos[j], sin[j]);
     }
 }
 
-// Fills the row of one level, by 720 lent directions.
+// Fills the row of one level, by 720 lent directions. Refused by 9, 10 or 11, and then the row is as before.
 #[tactic(auto, unfolding(crate::specs::Gamut::fill_says, crate::specs::Gamut::row_after))]
-pub fn fill_row(level: usize, cos: &[f32], sin: &[f32], row: &mut [f32]) -> Filling
-    ensures { (fill_said result ≡ fill_says level cos.now sin.now row.old)
+pub fn fill_row(level: usize, cos: &[f32], sin: &[f32], row: &mut [f32]) -> Result<(), Refusal>
+    ensures { (said result ≡ fill_says level cos.now sin.now row.old)
         × (row.new ≡ row_after level cos.now sin.now row.old) }
 {
-    if limits::takes_directions(cos, sin) {
-        if row.len() == Gamut::HUES {
-            if level < Gamut::LEVELS {
-                fill(Gamut::l_of(level as u16), cos, sin, row);
-                return Filling::Filled;
-            }
-            return Filling::Refused(Refusal::LevelIndex);
-        }
-        return Filling::Refused(Refusal::RowLength);
+    if !limits::takes_directions(cos, sin) {
+        return Err(Refusal::Directions);
     }
-    Filling::Refused(Refusal::Directions)
+    if row.len() != Gamut::HUES {
+        return Err(Refusal::RowLength);
+    }
+    if level >= Gamut::LEVELS {
+        return Err(Refusal::LevelIndex);
+    }
+    fill(Gamut::l_of(level as u16), cos, sin, row);
+    Ok(())
 }
