@@ -40,10 +40,7 @@ fn largest_of(row: &[f32]) -> f32
 {
     let mut most = 0;
     for x in row {
-        let bits = x.to_bits();
-        if most < bits {
-            most = bits;
-        }
+        most = most.max(x.to_bits());
     }
     f32::from_bits(most)
 }

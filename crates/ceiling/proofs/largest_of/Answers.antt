@@ -3,16 +3,15 @@ use mathlib.Core.Path.{◌≡◌, refl, ap, ◌∙◌}
 use mathlib.Core.List.{List}
 use Prim.Native.Nat.{ℕ, ◌+◌, ◌<◌}
 use native.Mathlib.Omega.{arith}
-use lib.Ieee.{Float, binary32, nan, of_bits, of_int}
+use lib.Ieee.{Float, binary32, nan, of_bits, to_bits, of_int}
 use lib.ListN.{length, get_or, drop}
 use Rattle.halving.proofs.Plain.{Plain}
 use Rattle.pair_rules.specs.Rows.{greater, largest_from, largest}
 use Rattle.pair_rules.proofs.Rows.{largest_next, largest_done}
 use Rattle.ceiling_rules.proofs.Tops.{entry_plain}
 use Rattle.ceiling.specs.Inner.{Row}
-use Rattle.ceiling.proofs.Patterns.{plain_number, no_nan, more, no_more}
+use Rattle.ceiling.proofs.Patterns.{plain_number, no_nan, max_is, greater_max}
 use Rattle.ceiling.proofs.largest_of.Goals as goal
-use Rattle.ceiling.proofs.largest_of.Goals.{then-most-bits, else-most-bits}
 
 pub loop-x-init : goal.loop-x-init
 unfolding largest of_bits of_int
@@ -22,28 +21,22 @@ loop-x-init c = (omega arith, refl)
 plain : (row : List Float) → Row row → (i : ℕ) → i < length row → Plain (get_or row i nan)
 plain row h i inside = entry_plain row h.long h.entries h.f32 i (omega arith)
 
-pub float_to_bits-bits : goal.float_to_bits-bits
-float_to_bits-bits c = plain_number _ (plain c.args.row.now c.requires c.loop-x.x-index c.loop-x-test.true)
+pub float_to_bits-x : goal.float_to_bits-x
+float_to_bits-x c = plain_number _ (plain c.args.row.now c.requires c.loop-x.x-index c.loop-x-test.true)
 
 pub loop-x-preserved : goal.loop-x-preserved
 loop-x-preserved c =
     let row = c.args.row.now in
     let i = c.loop-x.x-index in
+    let most = c.loop-x.most in
     let small = c.loop-x.invariant.0 in
     let X = plain row c.requires i c.loop-x-test.true in
-    let below : c.if-most-bits.most < 2139095040 = elim c.if-most-bits.branch [
-      | then-most-bits w ↦ rw w.most-is X.under
-      | else-most-bits w ↦ rw w.most-is small
-    ] in
-    let so : of_bits binary32 c.if-most-bits.most ≡ greater (of_bits binary32 c.loop-x.most) (get_or row i nan) = elim c.if-most-bits.branch [
-      | then-most-bits w ↦ ap (of_bits binary32) w.most-is ∙ more _ _ small X w.if-most-bits.true
-      | else-most-bits w ↦ ap (of_bits binary32) w.most-is ∙ no_more _ _ small X w.if-most-bits.false
-    ] in
-    (below, ap (λ (x : Float). largest_from x (drop (i + 1) row)) so ∙ largest_next row (of_bits binary32 c.loop-x.most) i c.loop-x.invariant.1 c.loop-x-test.true)
+    let is = c.max-most.ensures ∙ max_is most (to_bits binary32 (get_or row i nan)) in
+    let so = ap (of_bits binary32) is ∙ greater_max most (get_or row i nan) small X in
+    (omega (arith, is, X.under), ap (λ (x : Float). largest_from x (drop (i + 1) row)) so ∙ largest_next row (of_bits binary32 most) i c.loop-x.invariant.1 c.loop-x-test.true)
 
 pub float_from_bits-result : goal.float_from_bits-result
 float_from_bits-result c = no_nan _ c.loop-x.invariant.0
 
 pub returns : goal.returns
-returns c =
-    largest_done c.args.row.now (of_bits binary32 c.loop-x.most) c.loop-x.x-index c.loop-x.invariant.1 c.loop-x-test.false
+returns c = largest_done c.args.row.now (of_bits binary32 c.loop-x.most) c.loop-x.x-index c.loop-x.invariant.1 c.loop-x-test.false
