@@ -3,7 +3,7 @@
 // Its cases are in `search_cases`.
 #![tactic(auto)]
 
-ghost use Rattle.std.specs.Prelude.{◌≡◌, ◌&&◌};
+ghost use Rattle.std.specs.Prelude.{◌≡◌};
 ghost use Rattle.limits.specs.Answers.{value};
 ghost use Rattle.limits.specs.Refusals.{check_said};
 ghost use Rattle.search_rules.specs.Job.{gap_starts, start_checked, best_held, handed, hues_held, tightest_held, unbroken, step_checked, far_enough, qualifies};
@@ -37,15 +37,7 @@ pub fn check_start(settings: Settings, table: &[f32]) -> Checked
 fn holds_hues(n: usize, hues: [u16; 16]) -> bool
     ensures { result ≡ hues_held n hues }
 {
-    let mut i: usize = 0;
-    while i < 16 {
-        let most: u16 = if i < n { 719 } else { 0 };
-        if most < hues[i] {
-            return false;
-        }
-        i += 1;
-    }
-    true
+    hues.iter().take(n).all(|hue| *hue <= 719) && hues.iter().skip(n).all(|hue| *hue == 0)
 }
 
 // Whether a best so far is in its ranges, in a table of so many levels.
@@ -65,7 +57,7 @@ fn handed(k: usize, best: Best) -> usize
 {
     match best {
         Best::None => 0,
-        Best::Found(_, _, _) => k,
+        Best::Found(..) => k,
     }
 }
 
@@ -76,15 +68,8 @@ fn holds_tightest(best: Best, tightest: usize) -> bool
 {
     match best {
         Best::None => tightest == 0,
-        Best::Found(_, _, _) => 1 <= tightest && tightest <= Gamut::HUES,
+        Best::Found(..) => 1 <= tightest && tightest <= Gamut::HUES,
     }
-}
-
-// Whether what is handed out with a best so far is in its ranges: its hues and their smallest gap.
-fn holds_handed(k: usize, best: Best, hues: [u16; 16], tightest: usize) -> bool
-    ensures { result ≡ hues_held (handed k best) hues && tightest_held best tightest }
-{
-    holds_hues(handed(k, best), hues) && holds_tightest(best, tightest)
 }
 
 // Whether no field of a job is out of its range.
@@ -92,22 +77,14 @@ fn holds_handed(k: usize, best: Best, hues: [u16; 16], tightest: usize) -> bool
 pub fn is_unbroken(job: Job) -> bool
     ensures { result ≡ unbroken job }
 {
-    let k = job.settings.k;
-    let gap = job.settings.gap;
-    let levels = job.levels;
-    let position = job.position;
-    let best = job.best;
-    let hues = job.hues;
-    if !(limits::takes_hue_count(k) && limits::takes_gap(gap)) {
-        return false;
-    }
-    if !(1 <= levels && levels <= Gamut::LEVELS) {
-        return false;
-    }
-    if levels * levels < position {
-        return false;
-    }
-    holds_best(levels, best) && holds_handed(k, best, hues, job.tightest)
+    limits::takes_hue_count(job.settings.k)
+        && limits::takes_gap(job.settings.gap)
+        && 1 <= job.levels
+        && job.levels <= Gamut::LEVELS
+        && job.position <= job.levels * job.levels
+        && holds_best(job.levels, job.best)
+        && holds_hues(handed(job.settings.k, job.best), job.hues)
+        && holds_tightest(job.best, job.tightest)
 }
 
 // The first refusal of a step before it reads a row, of 15, 14, 6 and 8.
@@ -118,11 +95,10 @@ pub fn check_step(job: Job, length: usize, room: usize) -> Checked
     if !is_unbroken(job) {
         return Checked::Wrong(Refusal::Broken);
     }
-    let levels = job.levels;
-    if levels * levels <= job.position {
+    if job.levels * job.levels <= job.position {
         return Checked::Wrong(Refusal::Finished);
     }
-    if length != levels * Gamut::HUES {
+    if length != job.levels * Gamut::HUES {
         return Checked::Wrong(Refusal::TableLength);
     }
     if room < Gamut::HUES {
@@ -136,12 +112,11 @@ pub fn check_step(job: Job, length: usize, room: usize) -> Checked
 pub fn far_enough(gap: f32, dark: u16, light: u16) -> bool
     ensures { result ≡ far_enough gap dark light }
 {
-    let apart = Gamut::l_of(light) - Gamut::l_of(dark);
-    let least = gap + 1.0;
-    !(apart < least)
+    !(Gamut::l_of(light) - Gamut::l_of(dark) < gap + 1.0)
 }
 
 // Whether a job with these settings searches a pair of levels.
+#[tactic(auto, unfolding(search_rules::specs::Job::qualifies))]
 pub fn qualifies(settings: Settings, dark: u16, light: u16) -> bool
     ensures { result ≡ qualifies settings dark light }
 {
