@@ -5,11 +5,11 @@
 
 ghost use Rattle.std.specs.Prelude.{◌≡◌};
 ghost use Rattle.limits.specs.Answers.{value};
-ghost use Rattle.limits.specs.Refusals.{check_said};
+ghost use Rattle.limits.specs.Refusals.{said};
 ghost use Rattle.search_rules.specs.Job.{gap_starts, start_checked, best_held, handed, hues_held, tightest_held, unbroken, step_checked, far_enough, qualifies};
 
 use gamut::Gamut;
-use limits::{Checked, Refusal};
+use limits::Refusal;
 use search_rules::{Best, Job, Settings};
 
 // Whether a job may be begun with this gap: one that number 2 of document 01 takes, and from 40 up.
@@ -21,14 +21,14 @@ fn starts_gap(gap: f32) -> bool
 
 // The first refusal of a start, of 1, 2, 6 and 7 over the whole table.
 #[tactic(auto, unfolding(search_rules::specs::Job::start_checked_by))]
-pub fn check_start(settings: Settings, table: &[f32]) -> Checked
-    ensures { check_said result ≡ start_checked settings table.now (value tt) }
+pub fn check_start(settings: Settings, table: &[f32]) -> Result<(), Refusal>
+    ensures { said result ≡ start_checked settings table.now (value tt) }
 {
     if !limits::takes_hue_count(settings.k) {
-        return Checked::Wrong(Refusal::HueCount);
+        return Err(Refusal::HueCount);
     }
     if !starts_gap(settings.gap) {
-        return Checked::Wrong(Refusal::Gap);
+        return Err(Refusal::Gap);
     }
     gamut::check_table(table)
 }
@@ -41,7 +41,6 @@ fn holds_hues(n: usize, hues: [u16; 16]) -> bool
 }
 
 // Whether a best so far is in its ranges, in a table of so many levels.
-#[tactic(auto, unfolding(search_rules::specs::Job::best_held))]
 fn holds_best(levels: usize, best: Best) -> bool
     ensures { result ≡ best_held levels best }
 {
@@ -62,13 +61,12 @@ fn handed(k: usize, best: Best) -> usize
 }
 
 // Whether the smallest gap beside a best so far is in its range, or 0 where there is none.
-#[tactic(auto, unfolding(search_rules::specs::Job::tightest_held))]
 fn holds_tightest(best: Best, tightest: usize) -> bool
     ensures { result ≡ tightest_held best tightest }
 {
     match best {
         Best::None => tightest == 0,
-        Best::Found(..) => 1 <= tightest && tightest <= Gamut::HUES,
+        Best::Found(..) => (1..=Gamut::HUES).contains(&tightest),
     }
 }
 
@@ -79,8 +77,7 @@ pub fn is_unbroken(job: Job) -> bool
 {
     limits::takes_hue_count(job.settings.k)
         && limits::takes_gap(job.settings.gap)
-        && 1 <= job.levels
-        && job.levels <= Gamut::LEVELS
+        && (1..=Gamut::LEVELS).contains(&job.levels)
         && job.position <= job.levels * job.levels
         && holds_best(job.levels, job.best)
         && holds_hues(handed(job.settings.k, job.best), job.hues)
@@ -89,22 +86,22 @@ pub fn is_unbroken(job: Job) -> bool
 
 // The first refusal of a step before it reads a row, of 15, 14, 6 and 8.
 #[tactic(auto, unfolding(search_rules::specs::Job::step_checked, placement_rules::specs::Placing::work_needed))]
-pub fn check_step(job: Job, length: usize, room: usize) -> Checked
-    ensures { check_said result ≡ step_checked job length room (value tt) }
+pub fn check_step(job: Job, length: usize, room: usize) -> Result<(), Refusal>
+    ensures { said result ≡ step_checked job length room (value tt) }
 {
     if !is_unbroken(job) {
-        return Checked::Wrong(Refusal::Broken);
+        return Err(Refusal::Broken);
     }
     if job.levels * job.levels <= job.position {
-        return Checked::Wrong(Refusal::Finished);
+        return Err(Refusal::Finished);
     }
     if length != job.levels * Gamut::HUES {
-        return Checked::Wrong(Refusal::TableLength);
+        return Err(Refusal::TableLength);
     }
     if room < Gamut::HUES {
-        return Checked::Wrong(Refusal::WorkBuffer);
+        return Err(Refusal::WorkBuffer);
     }
-    Checked::Fine
+    Ok(())
 }
 
 // Whether the light level minus the dark one is not below gap + 1, one f32 sum. With a NaN gap it never is below; whoever asks has
