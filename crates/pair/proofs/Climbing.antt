@@ -4,10 +4,11 @@ use mathlib.Core.Bool.{Bool, true, false, cond}
 use mathlib.Core.List.{List}
 use Prim.Native.Nat.{ℕ, suc, ◌+◌, ◌-◌, ◌≤◌, ◌<◌}
 use native.Mathlib.Omega.{arith}
-use Rattle.std.specs.Prelude.{None}
+use Rattle.std.specs.Prelude.{Option, Some, None, Result, Ok, Err}
 use lib.Ieee.{Float, binary32, to_bits, lt}
 use lib.ListN.{length}
 use Rattle.limits.specs.Answers.{value, pass}
+use Rattle.limits.specs.declared.Refusal.{Refusal}
 use Rattle.limits.specs.Taken.{chroma_taken}
 use Rattle.limits.specs.Each.{F32}
 use Rattle.limits.proofs.Floats.{never}
@@ -15,11 +16,9 @@ use Rattle.halving.specs.Midpoint.{midpoint, halved, halve}
 use Rattle.halving.proofs.Halve.{halve_up, halve_down, stays_low, stays_high}
 use Rattle.halving.proofs.Meeting.{Met, midpoint_met, same_pattern}
 use Rattle.halving.proofs.Range.{taken_up_to, up_to_taken}
-use Rattle.placement_rules.specs.declared.Answer.{Answer}
-use Rattle.placement_rules.specs.declared.Answer.TheVariants.{Placed, Nowhere, Refused}
 use Rattle.placement_rules.specs.declared.Placement.{Placement}
 use Rattle.placement_rules.specs.Ring.{Places, nowhere, placed}
-use Rattle.placement_rules.specs.Placing.{sixteen, checked, placement_says, tightest_beside, answers, is_placed, Gives}
+use Rattle.placement_rules.specs.Placing.{sixteen, checked, placement_says, tightest_beside, placement_said, gap_handed, Gives}
 use Rattle.placement_rules.proofs.Checking.{row_passes, accepted_says, at_chroma}
 use Rattle.pair_rules.specs.Rows.{largest}
 use Rattle.pair_rules.specs.Pair.{none, found, placed_at, some, placeable, best_over}
@@ -27,21 +26,23 @@ use Rattle.pair_rules.proofs.Rows.{largest_up_to}
 use Rattle.pair.specs.declared.Bracket.{Bracket}
 use Rattle.pair.specs.Inner.{Ready, There, Stands, Moved, Turned, IsBest}
 
--- ---- an answer that gives places
-is_some : (a : Answer) (hues : List ℕ) (p : Places) → is_placed a ≡ true → answers a hues ≡ value (sixteen p) → (some p ≡ true) × (sixteen p ≡ placed hues)
-is_some Placed hues (placed is) t e = (refl, cc)
-is_some Placed hues nowhere t e = absurd (let z : ◌≡◌ {A = ℕ} 0 1 = cc in omega arith)
-is_some Nowhere hues p t e = never t
-is_some (Refused w) hues p t e = never t
+-- ---- what a placement hands back, by the places that it says
+is_some : (q : Placement) (p : Places) → value (placed q.hues) ≡ value (sixteen p) → (some p ≡ true) × (sixteen p ≡ placed q.hues)
+is_some q (placed is) e = (refl, cc)
+is_some q nowhere e = cc
 
-is_none : (a : Answer) (hues : List ℕ) (p : Places) → is_placed a ≡ false → answers a hues ≡ value (sixteen p) → some p ≡ false
-is_none a hues nowhere t e = refl
-is_none Placed hues (placed is) t e = never (sym t)
-is_none Nowhere hues (placed is) t e = absurd (let z : ◌≡◌ {A = ℕ} 0 1 = cc in omega arith)
-is_none (Refused w) hues (placed is) t e = absurd (let z : ◌≡◌ {A = ℕ} 0 1 = cc in omega arith)
+-- nothing is placed, or it is refused
+abbrev pub Without : Result (Option Placement) Refusal → Type 0
+Without r = (q : Placement) → r ≡ Ok (Some q) → ⊥
 
--- what the answer at a chroma says, over a row that placement takes at another
-module _ (k step : ℕ) (row : List Float) (room : ℕ) (d : Float) (fine : checked k step d row room pass ≡ pass) {c : Float} (met : Met c) (tried : Placement) (gives : Gives (length row) k tried (placement_says k step c row room)) where
+is_none : (r : Result (Option Placement) Refusal) (p : Places) → Without r → placement_said r ≡ value (sixteen p) → some p ≡ false
+is_none r nowhere t e = refl
+is_none (Ok (Some q)) (placed is) t e = absurd (t q refl)
+is_none (Ok None) (placed is) t e = cc
+is_none (Err w) (placed is) t e = cc
+
+-- what is handed back at a chroma, over a row that placement takes at another
+module _ (k step : ℕ) (row : List Float) (room : ℕ) (d : Float) (fine : checked k step d row room pass ≡ pass) {c : Float} (met : Met c) (tried : Result (Option Placement) Refusal) (gives : Gives (length row) k tried (placement_says k step c row room)) where
   taken : checked k step c row room pass ≡ pass
   unfolding chroma_taken
   taken = at_chroma k step d row room c (up_to_taken 200 c (omega arith) met.up_to_lem) fine
@@ -50,18 +51,15 @@ module _ (k step : ℕ) (row : List Float) (room : ℕ) (d : Float) (fine : chec
   unfolding placed_at
   accepted = accepted_says k step c row room taken
 
-  said : answers tried.answer tried.hues ≡ value (sixteen (placed_at k step row c))
-  said = gives.says ∙ accepted
-
-  pub placed_at_lem : is_placed tried.answer ≡ true → There k step row c tried
+  pub placed_at_lem : (q : Placement) → tried ≡ Ok (Some q) → There k step row c q
   unfolding placeable
-  placed_at_lem t =
-      let p = is_some tried.answer tried.hues (placed_at k step row c) t said in
-      record { passes = p.0; beside = p.1; tightest_is = gives.tightest_is ∙ ap (tightest_beside (length row) k) (accepted ∙ ap value p.1) }
+  placed_at_lem q t =
+      let p = is_some q (placed_at k step row c) (sym (ap placement_said t) ∙ gives.says ∙ accepted) in
+      record { passes = p.0; beside = p.1; tightest_is = sym (ap gap_handed t) ∙ gives.tightest_is ∙ ap (tightest_beside (length row) k) (accepted ∙ ap value p.1) }
 
-  pub not_placed_at : is_placed tried.answer ≡ false → placeable k step row c ≡ false
+  pub not_placed_at : Without tried → placeable k step row c ≡ false
   unfolding placeable
-  not_placed_at t = is_none tried.answer tried.hues (placed_at k step row c) t said
+  not_placed_at t = is_none tried (placed_at k step row c) t (gives.says ∙ accepted)
 
 -- ---- one round
 module _ {k step : ℕ} {row : List Float} {room : ℕ} {at : Bracket} (s : Stands k step row room at) {mid : Float} (is : mid ≡ midpoint at.lo at.hi) where
@@ -72,22 +70,22 @@ module _ {k step : ℕ} {row : List Float} {room : ℕ} {at : Bracket} (s : Stan
   pub at_low : to_bits binary32 mid ≡ to_bits binary32 at.lo → Turned k step row at None
   at_low b n = stays_low (placeable k step row) n at.lo at.hi (sym is ∙ same_pattern mid_met s.low b) s.there.passes
 
-  module _ (tried : Placement) (gives : Gives (length row) k tried (placement_says k step mid row room)) where
+  module _ (tried : Result (Option Placement) Refusal) (gives : Gives (length row) k tried (placement_says k step mid row room)) where
     -- hues are placed at the midpoint
-    pub up : is_placed tried.answer ≡ true → Moved k step row at (record at { lo = mid; placed = tried })
-    up t =
-        let there = placed_at_lem k step row room at.lo s.fine mid_met tried gives t in
+    pub up : (q : Placement) → tried ≡ Ok (Some q) → Moved k step row at (record at { lo = mid; placed = q })
+    up q t =
+        let there = placed_at_lem k step row room at.lo s.fine mid_met tried gives q t in
         record { there = there; low = mid_met; high = s.high; onward = λ (n : ℕ). rw is (halve_up (placeable k step row) n at.lo at.hi (ap (placeable k step row) (sym is) ∙ there.passes)) }
 
-    not_there : is_placed tried.answer ≡ false → placeable k step row (midpoint at.lo at.hi) ≡ false
+    not_there : Without tried → placeable k step row (midpoint at.lo at.hi) ≡ false
     not_there f = ap (placeable k step row) (sym is) ∙ not_placed_at k step row room at.lo s.fine mid_met tried gives f
 
     -- none are, and the midpoint is the upper end
-    pub at_high : is_placed tried.answer ≡ false → to_bits binary32 mid ≡ to_bits binary32 at.hi → Turned k step row at None
+    pub at_high : Without tried → to_bits binary32 mid ≡ to_bits binary32 at.hi → Turned k step row at None
     at_high f b n = let m = sym is ∙ same_pattern mid_met s.high b in stays_high (placeable k step row) n at.lo at.hi m (ap (placeable k step row) (sym m) ∙ not_there f)
 
     -- none are
-    pub down : is_placed tried.answer ≡ false → Moved k step row at (record at { hi = mid })
+    pub down : Without tried → Moved k step row at (record at { hi = mid })
     down f = record { there = s.there; low = s.low; high = mid_met; onward = λ (n : ℕ). rw is (halve_down (placeable k step row) n at.lo at.hi (not_there f)) }
 
 -- ---- after i rounds

@@ -4,28 +4,32 @@
 
 ghost use Rattle.std.specs.Prelude.{◌≡◌, [], ◌∷◌, length};
 ghost use Rattle.limits.specs.Answers.{value, Untouched};
-ghost use Rattle.limits.specs.Refusals.{check_said};
+ghost use Rattle.limits.specs.Refusals.{said};
 ghost use Rattle.pair_rules.specs.Rows.{least_row, largest};
 ghost use Rattle.pair_rules.specs.Pair.{best_over, rows_checked, rows_say, pair_says, Gives};
 ghost use Rattle.pair.specs.Inner.{Taken, Lent, Ready, There, Stands, Turned, IsBest};
 
-use limits::{Checked, Refusal};
+use limits::Refusal;
 pub use pair_rules::Chosen;
 use placement::Placement;
 
 // The first refusal that applies to a pair, of 1, 3, 4, 5, 7 and 8. Rows of unequal length are refused as a ring without hues
 // is. No ring that is taken needs more room than 720, so of the second row it is the entries alone that are left to be checked.
-fn check(a: &[f32], b: &[f32], floor: f32, k: usize, step: usize, room: usize) -> Checked
-    ensures { check_said result ≡ rows_checked k step floor (a.now ∷ b.now ∷ []) room (value tt) }
+fn check(
+    a: &[f32],
+    b: &[f32],
+    floor: f32,
+    k: usize,
+    step: usize,
+    room: usize,
+) -> Result<(), Refusal>
+    ensures { said result ≡ rows_checked k step floor (a.now ∷ b.now ∷ []) room (value tt) }
 {
     if a.len() != b.len() {
         return placement_checks::check(&[], floor, k, step, room);
     }
-    let second = placement_checks::check(b, floor, k, step, 720);
-    match second {
-        Checked::Wrong(why) => Checked::Wrong(why),
-        Checked::Fine => placement_checks::check(a, floor, k, step, room),
-    }
+    placement_checks::check(b, floor, k, step, 720)?;
+    placement_checks::check(a, floor, k, step, room)
 }
 
 // Writes the lesser value at each hue of two rows, and gives the largest of these values.
@@ -66,19 +70,15 @@ fn turn(row: &[f32], k: usize, step: usize, at: Bracket, work: &mut [u16]) -> Op
     if mid.to_bits() == at.lo.to_bits() {
         return None;
     }
-    let placed = placement::feasible(row, mid, k, step, work);
-    let answer = placed.answer;
-    if placement::is_placed(answer) {
-        return Some(Bracket {
+    match placement::feasible(row, mid, k, step, work) {
+        Ok(Some(placed)) => Some(Bracket {
             lo: mid,
             placed,
             ..at
-        });
+        }),
+        _ if mid.to_bits() == at.hi.to_bits() => None,
+        _ => Some(Bracket { hi: mid, ..at }),
     }
-    if mid.to_bits() == at.hi.to_bits() {
-        return None;
-    }
-    Some(Bracket { hi: mid, ..at })
 }
 
 // The best from a floor at which these hues are placed.
@@ -106,7 +106,7 @@ fn rounds(
         };
         at = next;
     }
-    let Placement { hues, tightest, .. } = at.placed;
+    let Placement { hues, tightest } = at.placed;
     Chosen {
         chroma: at.lo,
         hues,
@@ -126,12 +126,10 @@ fn climb(
     requires { Ready k step floor most row.now (length work.old) }
     ensures { IsBest k step floor row.now result }
 {
-    let first = placement::feasible(row, floor, k, step, work);
-    let answer = first.answer;
-    if !placement::is_placed(answer) {
-        return None;
+    match placement::feasible(row, floor, k, step, work) {
+        Ok(Some(first)) => Some(rounds(row, k, step, floor, most, first, work)),
+        _ => None,
     }
-    Some(rounds(row, k, step, floor, most, first, work))
 }
 
 // The same, where the largest may be below the floor.
@@ -177,11 +175,8 @@ pub fn best_for_levels(
     ensures gives { Gives (length a.now) k result (pair_says k step floor a.now b.now (length work.old)) }
     ensures untouched { Untouched (pair_says k step floor a.now b.now (length work.old)) work.old work.new }
 {
-    let checked = check(a, b, floor, k, step, work.len());
-    match checked {
-        Checked::Wrong(why) => Err(why),
-        Checked::Fine => Ok(best(a, b, k, step, floor, work)),
-    }
+    check(a, b, floor, k, step, work.len())?;
+    Ok(best(a, b, k, step, floor, work))
 }
 
 // The largest of a row's values, and 0 where none is above it.
@@ -209,9 +204,6 @@ pub fn best_for_row(
     ensures gives { Gives (length row.now) k result (rows_say k step floor (row.now ∷ []) (length work.old)) }
     ensures untouched { Untouched (rows_say k step floor (row.now ∷ []) (length work.old)) work.old work.new }
 {
-    let checked = placement_checks::check(row, floor, k, step, work.len());
-    match checked {
-        Checked::Wrong(why) => Err(why),
-        Checked::Fine => Ok(from_floor(row, k, step, floor, largest(row), work)),
-    }
+    placement_checks::check(row, floor, k, step, work.len())?;
+    Ok(from_floor(row, k, step, floor, largest(row), work))
 }
