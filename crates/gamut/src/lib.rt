@@ -5,11 +5,11 @@
 
 ghost use Rattle.std.specs.Prelude.{◌≡◌, ◌≤◌, length};
 ghost use Rattle.limits.specs.Answers.{value};
-ghost use Rattle.limits.specs.Refusals.{check_said};
+ghost use Rattle.limits.specs.Refusals.{said};
 ghost use Rattle.gamut.specs.Gamut.{level_of, max_chroma, fill_said, fill_says, row_after, row_of};
 ghost use Rattle.gamut.specs.Table.{table_taken, table_checked};
 
-use limits::{Checked, Refusal};
+use limits::Refusal;
 
 // The shape of a table: rows of 720 entries, one for each level, lent as one slice. The calls take the slice itself; the type is where
 // the table constants stand.
@@ -40,25 +40,26 @@ impl Gamut {
 }
 
 // Whether a slice is taken as a table, by its length.
+#[tactic(auto, unfolding(crate::specs::Table::table_taken, crate::specs::Table::levels_in))]
 pub fn takes_table(table: &[f32]) -> bool
     ensures { result ≡ table_taken table.now }
 {
-    let n = table.len();
-    let levels = n / Gamut::HUES;
-    n == levels * Gamut::HUES && 1 <= levels && levels <= Gamut::LEVELS
+    let levels = table.len() / Gamut::HUES;
+    table.len() == levels * Gamut::HUES && (1..=Gamut::LEVELS).contains(&levels)
 }
 
 // The first refusal of a table that is read whole, of 6 and 7.
-pub fn check_table(table: &[f32]) -> Checked
-    ensures { check_said result ≡ table_checked table.now (value tt) }
+#[tactic(auto, unfolding(crate::specs::Table::table_checked))]
+pub fn check_table(table: &[f32]) -> Result<(), Refusal>
+    ensures { said result ≡ table_checked table.now (value tt) }
 {
     if !takes_table(table) {
-        return Checked::Wrong(Refusal::TableLength);
+        return Err(Refusal::TableLength);
     }
     if !limits::takes_entries(table) {
-        return Checked::Wrong(Refusal::Entry);
+        return Err(Refusal::Entry);
     }
-    Checked::Fine
+    Ok(())
 }
 
 // Whether a row was filled, or why not.
