@@ -5,6 +5,8 @@ use mathlib.Core.List.{List}
 use Prim.Native.Nat.{ℕ, suc, ◌+◌, ◌-◌, ◌≤◌, ◌<◌}
 use native.Mathlib.Omega.{arith}
 use Rattle.std.specs.Prelude.{Option, Some, None, Result, Ok, Err}
+use Rattle.std.specs.Result.{IsOk}
+use Rattle.std.proofs.Common.{rules}
 use lib.Ieee.{Float, binary32, to_bits, lt}
 use lib.ListN.{length}
 use Rattle.limits.specs.Answers.{value, pass}
@@ -12,81 +14,69 @@ use Rattle.limits.specs.declared.Refusal.{Refusal}
 use Rattle.limits.specs.Taken.{chroma_taken}
 use Rattle.limits.specs.Each.{F32}
 use Rattle.limits.proofs.Floats.{never}
+use Rattle.limits.proofs.Checks.{same_value, said_twice}
 use Rattle.halving.specs.Midpoint.{midpoint, halved, halve}
 use Rattle.halving.proofs.Halve.{halve_up, halve_down, stays_low, stays_high}
 use Rattle.halving.proofs.Meeting.{Met, midpoint_met, same_pattern}
 use Rattle.halving.proofs.Range.{taken_up_to, up_to_taken}
 use Rattle.placement_rules.specs.declared.Placement.{Placement}
 use Rattle.placement_rules.specs.Ring.{Places, nowhere, placed}
-use Rattle.placement_rules.specs.Placing.{sixteen, checked, placement_says, tightest_beside, placement_said, gap_handed, Gives}
+use Rattle.placement_rules.specs.Placing.{sixteen, checked, placement_says, tightest_beside, places_of, gap_of, Gives}
 use Rattle.placement_rules.proofs.Checking.{row_passes, accepted_says, at_chroma}
 use Rattle.pair_rules.specs.Rows.{largest}
 use Rattle.pair_rules.specs.Pair.{none, found, placed_at, some, placeable, best_over}
 use Rattle.pair_rules.proofs.Rows.{largest_up_to}
 use Rattle.pair.specs.declared.Bracket.{Bracket}
-use Rattle.pair.specs.Inner.{Ready, There, Stands, Moved, Turned, IsBest}
+use Rattle.pair.specs.Inner.{Ready, There, Tried, Stands, Moved, Turned, IsBest}
 
--- ---- what a placement hands back, by the places that it says
-is_some : (q : Placement) (p : Places) → value (placed q.hues) ≡ value (sixteen p) → (some p ≡ true) × (sixteen p ≡ placed q.hues)
-is_some q (placed is) e = (refl, cc)
-is_some q nowhere e = cc
-
--- nothing is placed, or it is refused
-abbrev pub Without : Result (Option Placement) Refusal → Type 0
-Without r = (q : Placement) → r ≡ Ok (Some q) → ⊥
-
-is_none : (r : Result (Option Placement) Refusal) (p : Places) → Without r → placement_said r ≡ value (sixteen p) → some p ≡ false
-is_none r nowhere t e = refl
-is_none (Ok (Some q)) (placed is) t e = absurd (t q refl)
-is_none (Ok None) (placed is) t e = cc
-is_none (Err w) (placed is) t e = cc
-
--- what is handed back at a chroma, over a row that placement takes at another
-module _ (k step : ℕ) (row : List Float) (room : ℕ) (d : Float) (fine : checked k step d row room pass ≡ pass) {c : Float} (met : Met c) (tried : Result (Option Placement) Refusal) (gives : Gives (length row) k tried (placement_says k step c row room)) where
-  taken : checked k step c row room pass ≡ pass
-  unfolding chroma_taken
-  taken = at_chroma k step d row room c (up_to_taken 200 c (omega arith) met.up_to_lem) fine
-
+-- ---- what is placed at a chroma at which placement takes the row
+module _ (k step : ℕ) (row : List Float) (room : ℕ) (c : Float) (fine : checked k step c row room pass ≡ pass) where
   accepted : placement_says k step c row room ≡ value (sixteen (placed_at k step row c))
   unfolding placed_at
-  accepted = accepted_says k step c row room taken
+  accepted = accepted_says k step c row room fine
 
-  pub placed_at_lem : (q : Placement) → tried ≡ Ok (Some q) → There k step row c q
+  -- by what is handed back, which is no refusal
+  pub tried : (r : Option Placement) → Gives (length row) k (Ok r) (placement_says k step c row room) → Tried k step row c r
   unfolding placeable
-  placed_at_lem q t =
-      let p = is_some q (placed_at k step row c) (sym (ap placement_said t) ∙ gives.says ∙ accepted) in
-      record { passes = p.0; beside = p.1; tightest_is = sym (ap gap_handed t) ∙ gives.tightest_is ∙ ap (tightest_beside (length row) k) (accepted ∙ ap value p.1) }
+  tried r g = go r (placed_at k step row c) refl (g.says ∙ accepted) g.tightest_is
+    where
+      go : (r : Option Placement) (p : Places) → placed_at k step row c ≡ p → value (places_of r) ≡ value (sixteen p) → gap_of r ≡ tightest_beside (length row) k (placement_says k step c row room) → Tried k step row c r
+      go (Some q) (placed is) e v t =
+          let beside = ap sixteen e ∙ same_value (sixteen (placed is)) (placed q.hues) (sym v) in
+          record { passes = ap some e; beside = beside; tightest_is = t ∙ ap (tightest_beside (length row) k) (accepted ∙ ap value beside) }
+      go (Some q) nowhere e v t = cc
+      go None (placed is) e v t = cc
+      go None nowhere e v t = ap some e
 
-  pub not_placed_at : Without tried → placeable k step row c ≡ false
-  unfolding placeable
-  not_placed_at t = is_none tried (placed_at k step row c) t (gives.says ∙ accepted)
+  pub not_refused : (r : Result (Option Placement) Refusal) → Gives (length row) k r (placement_says k step c row room) → IsOk r
+  not_refused (Ok r) g = search rules
+  not_refused (Err w) g = absurd (said_twice accepted (sym g.says))
 
 -- ---- one round
 module _ {k step : ℕ} {row : List Float} {room : ℕ} {at : Bracket} (s : Stands k step row room at) {mid : Float} (is : mid ≡ midpoint at.lo at.hi) where
   pub mid_met : Met mid
   mid_met = rw is (midpoint_met s.low s.high)
 
+  -- placement takes the row there too
+  pub mid_fine : checked k step mid row room pass ≡ pass
+  unfolding chroma_taken
+  mid_fine = at_chroma k step at.lo row room mid (up_to_taken 200 mid (omega arith) mid_met.up_to_lem) s.fine
+
   -- the midpoint is the lower end
   pub at_low : to_bits binary32 mid ≡ to_bits binary32 at.lo → Turned k step row at None
   at_low b n = stays_low (placeable k step row) n at.lo at.hi (sym is ∙ same_pattern mid_met s.low b) s.there.passes
 
-  module _ (tried : Result (Option Placement) Refusal) (gives : Gives (length row) k tried (placement_says k step mid row room)) where
-    -- hues are placed at the midpoint
-    pub up : (q : Placement) → tried ≡ Ok (Some q) → Moved k step row at (record at { lo = mid; placed = q })
-    up q t =
-        let there = placed_at_lem k step row room at.lo s.fine mid_met tried gives q t in
-        record { there = there; low = mid_met; high = s.high; onward = λ (n : ℕ). rw is (halve_up (placeable k step row) n at.lo at.hi (ap (placeable k step row) (sym is) ∙ there.passes)) }
+  -- hues are placed at the midpoint
+  pub up : (q : Placement) → There k step row mid q → Moved k step row at (record at { lo = mid; placed = q })
+  up q t = record { there = t; low = mid_met; high = s.high; onward = λ (n : ℕ). rw is (halve_up (placeable k step row) n at.lo at.hi (ap (placeable k step row) (sym is) ∙ t.passes)) }
 
-    not_there : Without tried → placeable k step row (midpoint at.lo at.hi) ≡ false
-    not_there f = ap (placeable k step row) (sym is) ∙ not_placed_at k step row room at.lo s.fine mid_met tried gives f
+  -- none are, and the midpoint is the upper end
+  pub at_high : placeable k step row mid ≡ false → to_bits binary32 mid ≡ to_bits binary32 at.hi → Turned k step row at None
+  at_high f b n = let m = same_pattern mid_met s.high b in stays_high (placeable k step row) n at.lo at.hi (sym is ∙ m) (ap (placeable k step row) (sym m) ∙ f)
 
-    -- none are, and the midpoint is the upper end
-    pub at_high : Without tried → to_bits binary32 mid ≡ to_bits binary32 at.hi → Turned k step row at None
-    at_high f b n = let m = sym is ∙ same_pattern mid_met s.high b in stays_high (placeable k step row) n at.lo at.hi m (ap (placeable k step row) (sym m) ∙ not_there f)
-
-    -- none are
-    pub down : Without tried → Moved k step row at (record at { hi = mid })
-    down f = record { there = s.there; low = s.low; high = mid_met; onward = λ (n : ℕ). rw is (halve_down (placeable k step row) n at.lo at.hi (not_there f)) }
+  -- none are
+  pub down : placeable k step row mid ≡ false → Moved k step row at (record at { hi = mid })
+  down f = record { there = s.there; low = s.low; high = mid_met; onward = λ (n : ℕ). rw is (halve_down (placeable k step row) n at.lo at.hi (ap (placeable k step row) (sym is) ∙ f)) }
 
 -- ---- after i rounds
 pub record Climbed (k step : ℕ) (row : List Float) (room : ℕ) (floor most : Float) (at : Bracket) (i : ℕ) : Type 0 where

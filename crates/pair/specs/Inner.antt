@@ -34,6 +34,11 @@ pub record There (k step : ℕ) (row : List Float) (c : Float) (p : Placement) :
   pub beside : sixteen (placed_at k step row c) ≡ placed p.hues
   pub tightest_is : p.tightest ≡ tightest (length row) (take k p.hues)
 
+-- hues are placed at c, or none are
+abbrev pub Tried : ℕ → ℕ → List Float → Float → Option Placement → Type 0
+Tried k step row c (Some p) = There k step row c p
+Tried k step row c None = placeable k step row c ≡ false
+
 -- where a halving stands: ends that it meets, with the hues that are placed at the lower one, over a row that placement takes there
 pub record Stands (k step : ℕ) (row : List Float) (room : ℕ) (at : Bracket) : Type 0 where
   pub fine : checked k step at.lo row room pass ≡ pass

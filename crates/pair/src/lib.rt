@@ -3,11 +3,12 @@
 #![tactic(auto)]
 
 ghost use Rattle.std.specs.Prelude.{◌≡◌, [], ◌∷◌, length};
-ghost use Rattle.limits.specs.Answers.{value, Untouched};
+ghost use Rattle.limits.specs.Answers.{value, pass, Untouched};
 ghost use Rattle.limits.specs.Refusals.{said};
+ghost use Rattle.placement_rules.specs.Placing.{checked};
 ghost use Rattle.pair_rules.specs.Rows.{least_row, largest};
 ghost use Rattle.pair_rules.specs.Pair.{best_over, rows_checked, rows_say, pair_says, Gives};
-ghost use Rattle.pair.specs.Inner.{Taken, Lent, Ready, There, Stands, Turned, IsBest};
+ghost use Rattle.pair.specs.Inner.{Taken, Lent, Ready, There, Tried, Stands, Turned, IsBest};
 
 use limits::Refusal;
 pub use pair_rules::Chosen;
@@ -50,6 +51,14 @@ fn lesser_row(a: &[f32], b: &[f32], row: &mut [f32]) -> f32
     most
 }
 
+// What is placed at a chroma at which the row is taken, so that it is not refused.
+fn place(row: &[f32], c: f32, k: usize, step: usize, work: &mut [u16]) -> Option<Placement>
+    requires { checked k step c row.now (length work.old) pass ≡ pass }
+    ensures { Tried k step row.now c result }
+{
+    placement::feasible(row, c, k, step, work).unwrap()
+}
+
 // Where a halving stands.
 #[derive(Clone, Copy)]
 struct Bracket {
@@ -70,15 +79,17 @@ fn turn(row: &[f32], k: usize, step: usize, at: Bracket, work: &mut [u16]) -> Op
     if mid.to_bits() == at.lo.to_bits() {
         return None;
     }
-    match placement::feasible(row, mid, k, step, work) {
-        Ok(Some(placed)) => Some(Bracket {
+    if let Some(placed) = place(row, mid, k, step, work) {
+        return Some(Bracket {
             lo: mid,
             placed,
             ..at
-        }),
-        _ if mid.to_bits() == at.hi.to_bits() => None,
-        _ => Some(Bracket { hi: mid, ..at }),
+        });
     }
+    if mid.to_bits() == at.hi.to_bits() {
+        return None;
+    }
+    Some(Bracket { hi: mid, ..at })
 }
 
 // The best from a floor at which these hues are placed.
@@ -126,10 +137,8 @@ fn climb(
     requires { Ready k step floor most row.now (length work.old) }
     ensures { IsBest k step floor row.now result }
 {
-    match placement::feasible(row, floor, k, step, work) {
-        Ok(Some(first)) => Some(rounds(row, k, step, floor, most, first, work)),
-        _ => None,
-    }
+    let first = place(row, floor, k, step, work)?;
+    Some(rounds(row, k, step, floor, most, first, work))
 }
 
 // The same, where the largest may be below the floor.

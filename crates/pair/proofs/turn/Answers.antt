@@ -1,7 +1,6 @@
 -- `pair::turn` meets its contract: the midpoint is an end and nothing moves, or hues are placed there, or none are. Assumes nothing.
-use mathlib.Core.Path.{sym, ◌∙◌}
 use Rattle.halving.proofs.Meeting.{no_nan}
-use Rattle.pair.proofs.Climbing.{mid_met, at_low, up, at_high, down}
+use Rattle.pair.proofs.Climbing.{mid_met, mid_fine, at_low, up, at_high, down}
 use Rattle.pair.proofs.turn.Goals as goal
 
 pub float_to_bits-mid : goal.float_to_bits-mid
@@ -13,8 +12,8 @@ float_to_bits-at c = rw (no_nan c.requires.low) tt
 pub returns-then-mid-at : goal.returns-then-mid-at
 returns-then-mid-at c = at_low c.requires c.midpoint-mid.ensures c.if-mid-at.true
 
-pub returns-then-is_placed : goal.returns-then-is_placed
-returns-then-is_placed c = up c.requires c.midpoint-mid.ensures _ c.feasible-placed.ensures.gives (sym c.is_placed.ensures ∙ c.if-is_placed.true)
+pub place-requires : goal.place-requires
+place-requires c = mid_fine c.requires c.midpoint-mid.ensures
 
 pub float_to_bits-mid-2 : goal.float_to_bits-mid-2
 float_to_bits-mid-2 c = rw (no_nan (mid_met c.requires c.midpoint-mid.ensures)) tt
@@ -22,8 +21,11 @@ float_to_bits-mid-2 c = rw (no_nan (mid_met c.requires c.midpoint-mid.ensures)) 
 pub float_to_bits-at-2 : goal.float_to_bits-at-2
 float_to_bits-at-2 c = rw (no_nan c.requires.high) tt
 
+pub returns-in-Some : goal.returns-in-Some
+returns-in-Some c = up c.requires c.midpoint-mid.ensures c.in-Some.placed c.in-Some.ensures
+
 pub returns-then-mid-at-2 : goal.returns-then-mid-at-2
-returns-then-mid-at-2 c = at_high c.requires c.midpoint-mid.ensures _ c.feasible-placed.ensures.gives (sym c.is_placed.ensures ∙ c.if-is_placed.false) c.if-mid-at-2.true
+returns-then-mid-at-2 c = at_high c.requires c.midpoint-mid.ensures c.in_default.ensures c.if-mid-at-2.true
 
 pub returns : goal.returns
-returns c = down c.requires c.midpoint-mid.ensures _ c.feasible-placed.ensures.gives (sym c.is_placed.ensures ∙ c.if-is_placed.false)
+returns c = down c.requires c.midpoint-mid.ensures c.in_default.ensures
