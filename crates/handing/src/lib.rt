@@ -13,7 +13,6 @@ ghost use Rattle.handing.specs.Numbers.{number_of, place_number, hues_after, gap
 
 use limits::Refusal;
 use pair::Chosen;
-use placement::Placement;
 
 // What is given where there is no placement.
 const NO_PLACEMENT: u32 = 255;
@@ -60,12 +59,10 @@ pub fn place(
     ensures untouched { Untouched (placement_says k step c m.now (length work.old)) work.old work.new }
 {
     match placement::feasible(m, c, k, step, work) {
-        Ok(Some(Placement {
-            hues: placed,
-            tightest: gap,
-        })) => {
+        Ok(Some(found)) => {
+            let placed = found.hues;
             *hues = placed;
-            *tightest = [gap];
+            *tightest = [found.tightest];
             0
         }
         Ok(None) => {
@@ -89,13 +86,10 @@ pub fn hand(
         × (chroma.new ≡ best_chroma (chosen_said chosen) chroma.old)) }
 {
     match chosen {
-        Ok(Some(Chosen {
-            chroma: reached,
-            hues: given,
-            ..
-        })) => {
-            *hues = given;
-            *chroma = [reached];
+        Ok(Some(best)) => {
+            let placed = best.hues;
+            *hues = placed;
+            *chroma = [best.chroma];
             0
         }
         Ok(None) => {
