@@ -1,20 +1,15 @@
 // What the words of a case say.
-use cases::{MOST, Words};
 
 // The word at a place, 0 where there is no such place.
-pub fn word_at(words: Words, at: usize) -> u32 {
-    if at < MOST {
-        return words[at];
+pub fn word_at(words: &[u32], at: usize) -> u32 {
+    words.get(at).copied().unwrap_or(0)
+}
+
+// Sixteen hues by words, 0 after the last.
+pub fn hues_of(words: &[u32]) -> [u16; 16] {
+    let mut hues = [0; 16];
+    for (hue, word) in hues.iter_mut().zip(words) {
+        *hue = (word % 0x1_0000) as u16;
     }
-    0
-}
-
-// The word at a place as a place or a length.
-pub fn size_at(words: Words, at: usize) -> usize {
-    word_at(words, at) as usize
-}
-
-// The float of the word at a place.
-pub fn float_at(words: Words, at: usize) -> f32 {
-    patterns::float_of(word_at(words, at))
+    hues
 }

@@ -16,34 +16,22 @@ pub fn seed_of(number: u64) -> u32 {
 // The number that a seed gives: half of them could be indices of a ring of 720, and half are any.
 fn number_of(seed: u32) -> u16 {
     if seed < 0x8000_0000 {
-        return (seed % 1440) as u16;
+        (seed % 1440) as u16
+    } else {
+        (seed % 0x1_0000) as u16
     }
-    (seed % 0x1_0000) as u16
 }
 
 // Fills a work buffer.
 pub fn fill(work: &mut [u16], seed: u32) {
     let mut next = seed;
-    let mut i = 0;
-    while i < work.len() {
-        work[i] = number_of(next);
+    for number in work {
+        *number = number_of(next);
         next = next_seed(next);
-        i += 1;
     }
-}
-
-// A digest with the numbers of a work buffer.
-pub fn digested(sum: u64, work: &[u16]) -> u64 {
-    let mut to = sum;
-    let mut i = 0;
-    while i < work.len() {
-        to = digest::with_pair(to, work[i]);
-        i += 1;
-    }
-    to
 }
 
 // The digest of a work buffer.
 pub fn digest_of(work: &[u16]) -> u64 {
-    digested(digest::START, work)
+    digest::with_pairs(digest::START, work)
 }
