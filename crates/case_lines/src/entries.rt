@@ -29,13 +29,13 @@ impl Row {
         &mut self.entries[..self.length.min(LONGEST)]
     }
 
-    // Takes another length, if a row can have it, and says whether it can.
-    pub fn set_length(&mut self, length: usize) -> bool {
-        let fits = length <= LONGEST;
-        if fits {
-            self.length = length;
+    // Takes another length, if a row can have it.
+    pub fn set_length(&mut self, length: usize) -> Option<()> {
+        if length > LONGEST {
+            return None;
         }
-        fits
+        self.length = length;
+        Some(())
     }
 }
 
@@ -44,22 +44,17 @@ fn part(row: &mut [f32], at: usize, count: usize) -> Option<&mut [f32]> {
     row.get_mut(at..at.checked_add(count)?)
 }
 
-// Sets the entries from a place on to the floats of words, and says whether there are so many.
-pub fn put(row: &mut [f32], at: usize, words: &[u32]) -> bool {
-    let Some(part) = part(row, at, words.len()) else {
-        return false;
-    };
+// Sets the entries from a place on to the floats of words, if there are so many.
+pub fn put(row: &mut [f32], at: usize, words: &[u32]) -> Option<()> {
+    let part = part(row, at, words.len())?;
     for (entry, word) in part.iter_mut().zip(words) {
         *entry = patterns::float_of(*word);
     }
-    true
+    Some(())
 }
 
-// Sets so many entries from a place on to the same, and says whether there are so many.
-pub fn put_same(row: &mut [f32], at: usize, count: usize, entry: f32) -> bool {
-    let Some(part) = part(row, at, count) else {
-        return false;
-    };
-    part.fill(entry);
-    true
+// Sets so many entries from a place on to the same, if there are so many.
+pub fn put_same(row: &mut [f32], at: usize, count: usize, entry: f32) -> Option<()> {
+    part(row, at, count)?.fill(entry);
+    Some(())
 }

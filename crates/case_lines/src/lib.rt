@@ -90,8 +90,8 @@ impl Reader {
     }
 }
 
-// Reads a list to its end, and hands on each of its cases.
-pub fn each_case<R: Input + Print, F: FnMut(&Line)>(rt: &R, mut take: F)
+// Reads a list to its end, and hands on each of its cases. One that a list may not have, for which nothing comes back, is answered.
+pub fn each_case<R: Input + Print, F: FnMut(&Line) -> Option<()>>(rt: &R, mut take: F)
     requires { F.IsAlwaysCallable take }
 {
     let mut input = rt.reader();
@@ -100,8 +100,8 @@ pub fn each_case<R: Input + Print, F: FnMut(&Line)>(rt: &R, mut take: F)
         if !reader.more {
             break;
         }
-        if reader.turn(rt, &mut input) {
-            take(&reader.line);
+        if reader.turn(rt, &mut input) && take(&reader.line).is_none() {
+            answers::malformed(rt);
         }
     }
 }

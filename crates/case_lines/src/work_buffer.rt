@@ -1,5 +1,10 @@
 // What a work buffer holds before a call, numbers that no call wrote, others before each; and after it.
+ghost use Rattle.std.specs.Prelude.{◌≤◌, length};
+
 use crate::digest;
+
+// How long a work buffer can be.
+const LONGEST: usize = 2400;
 
 // The seed after this one (xorshift with 32 bits).
 pub fn next_seed(seed: u32) -> u32 {
@@ -29,6 +34,16 @@ pub fn fill(work: &mut [u16], seed: u32) {
         *number = number_of(next);
         next = next_seed(next);
     }
+}
+
+// What comes out of a call that is lent a work buffer of this length, filled by a seed, if it can have this length.
+pub fn lend<T, F: FnOnce(&mut [u16]) -> T>(room: usize, seed: u32, call: F) -> Option<T>
+    requires { F.IsAlwaysCallable call }
+{
+    let mut work = [0; LONGEST];
+    let work = work.get_mut(..room)?;
+    fill(work, seed);
+    Some(call(work))
 }
 
 // The digest of a work buffer.

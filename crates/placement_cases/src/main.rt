@@ -6,38 +6,43 @@
 mod places;
 mod sweeps;
 
+use case_lines::entries;
 use case_lines::entries::Row;
-use case_lines::{answers, entries};
 use cases::Line;
 
-// Takes a line: one that sets the ring's entries, or a case, which is answered.
-fn take_line(rt: &impl Print, line: &Line, ring: &mut Row) {
-    match (line.operation(), line.words()) {
+// Takes a line, which is answered if it is a case.
+fn take_line(rt: &impl Print, line: &Line, ring: &mut Row) -> Option<()> {
+    let answer = match (line.operation(), line.words()) {
         // ring n e ..: the ring has n entries, the first of which are these; the others are as they were
         (b"ring", [n, words @ ..]) if words.len() <= *n as usize => {
-            if !(ring.set_length(*n as usize) && entries::put(ring.entries_mut(), 0, words)) {
-                answers::malformed(rt);
-            }
+            ring.set_length(*n as usize)?;
+            return entries::put(ring.entries_mut(), 0, words);
         }
+
         // more i e ..: the ring's entries from i on are these
         (b"more", [i, words @ ..]) if !words.is_empty() => {
-            if !entries::put(ring.entries_mut(), *i as usize, words) {
-                answers::malformed(rt);
-            }
+            return entries::put(ring.entries_mut(), *i as usize, words);
         }
+
         // step k = number step: `step_for`, with the number of its refusal and 0, or 0 and the step
-        (b"step", [k]) => places::answer_step(*k as usize).write(rt, line),
+        (b"step", [k]) => places::step(*k as usize),
+
         // place k step c room = number placed tightest h .. hi lo: `feasible` with a work buffer of this length: the number of its
         // refusal or 0, whether something is placed, the tightest gap and sixteen hues, and after a refusal the digest of the work
         // buffer
-        (b"place", [k, step, c, room]) => places::answer(rt, line, ring.entries(), *k, *step, *c, *room),
+        (b"place", [k, step, c, room]) => {
+            places::place(line.number, ring.entries(), [*k, *step, *c, *room])?
+        }
+
         // sweep c .. = hi lo: the digest of `feasible` for each k, each spacing and each of these chromas
-        (b"sweep", [_, ..]) => sweeps::answer(rt, line, ring.entries()),
-        _ => answers::malformed(rt),
-    }
+        (b"sweep", chromas @ [_, ..]) => sweeps::sweep(line.number, ring.entries(), chromas)?,
+        _ => return None,
+    };
+    answer.write(rt, line);
+    Some(())
 }
 
-// Reads the list to its end.
+// Answers the list.
 fn main(rt: HostRuntime) {
     let mut ring = Row::new();
     case_lines::each_case(&rt, |line| take_line(&rt, line, &mut ring));
