@@ -6,6 +6,7 @@ ghost use Rattle.std.specs.Prelude.{◌≤◌};
 pub mod answers;
 pub mod digest;
 pub mod entries;
+pub mod hues;
 pub mod words;
 pub mod work_buffer;
 
