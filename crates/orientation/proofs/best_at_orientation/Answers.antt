@@ -35,20 +35,20 @@ partner_in gap t hue h f32 (found c d l p) e = let g = found_greatest gap t hue 
 pub over_dark-requires : goal.over_dark-requires
 over_dark-requires c =
     let a = c.args in
-    record { taken = taken a.gap a.table.now a.hue c.in-Fine.ensures; f32 = each_at F32 nan a.table.now c.type_inv.table }
+    record { taken = taken a.gap a.table.now a.hue c.in_ok-check.ensures; f32 = each_at F32 nan a.table.now c.type_inv.table }
 
 pub handed-requires : goal.handed-requires
 handed-requires c =
     let a = c.args in
-    let h = taken a.gap a.table.now a.hue c.in-Fine.ensures in
+    let h = taken a.gap a.table.now a.hue c.in_ok-check.ensures in
     record { hue_in = h.hue_in; partner_in = partner_in a.gap a.table.now a.hue h (each_at F32 nan a.table.now c.type_inv.table) (best_of c.over_dark.result) (sym c.over_dark.ensures) }
 
-pub returns-in-Wrong : goal.returns-in-Wrong
-returns-in-Wrong c =
+pub returns-in_err-check : goal.returns-in_err-check
+returns-in_err-check c =
     let a = c.args in
-    subst (Gives _ a.hue) (refusing a.gap a.table.now a.hue _ c.in-Wrong.ensures) (record { says = refl; beside = refl })
+    subst (Gives _ a.hue) (refusing a.gap a.table.now a.hue _ c.in_err-check.ensures) (record { says = refl; beside = refl })
 
-pub returns-in-Fine : goal.returns-in-Fine
-returns-in-Fine c =
+pub returns : goal.returns
+returns c =
     let a = c.args in
-    subst (Gives _ a.hue) (ap value c.over_dark.ensures ∙ passing a.gap a.table.now a.hue c.in-Fine.ensures) c.handed.ensures
+    subst (Gives _ a.hue) (ap value c.over_dark.ensures ∙ passing a.gap a.table.now a.hue c.in_ok-check.ensures) c.handed.ensures
