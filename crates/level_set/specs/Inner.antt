@@ -3,9 +3,7 @@ use Rattle.std.specs.Prelude.{◌≡◌, List, ℕ, ◌*◌, ◌≤◌, ◌<◌,
 use Rattle.std.specs.Float.{nan, inf}
 use Rattle.limits.specs.Each.{Each}
 use Rattle.gamut.specs.Table.{levels_in}
-use Rattle.placement_rules.specs.Placing.{step_for}
 use Rattle.pair_rules.specs.Rows.{lesser}
-use Rattle.level_set_rules.specs.Meant.{SetTaken}
 
 -- a level of a table
 pub record LevelOf (t : List Float) (level : ℕ) : Type 0 where

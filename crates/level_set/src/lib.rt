@@ -43,6 +43,7 @@ fn takes_rows(table: &[f32], levels: &[usize]) -> bool
 }
 
 // The first refusal of a call whose hue count is taken, of 6, 8, 18, 11 and, over the rows named, 7.
+#[tactic(auto, unfolding(level_set_rules::specs::Set::named_checked, level_set_rules::specs::Set::list_taken, gamut::specs::Table::levels_in, placement_rules::specs::Placing::work_needed))]
 fn check(table: &[f32], levels: &[usize], room: usize) -> Result<(), Refusal>
     ensures { said result ≡ named_checked table.now levels.now room (value tt) }
 {

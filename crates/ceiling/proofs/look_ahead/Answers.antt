@@ -3,6 +3,7 @@ use mathlib.Core.Path.{◌≡◌, sym, ap, ◌∙◌}
 use mathlib.Core.List.{List}
 use Prim.Native.Nat.{ℕ}
 use lib.Ieee.{Float, nan}
+use Rattle.std.proofs.lemmas.Result.{err_from_is_err_and}
 use Rattle.limits.specs.Answers.{value, refused, pass}
 use Rattle.limits.specs.Each.{F32}
 use Rattle.limits.proofs.Lists.{each_at}
@@ -32,7 +33,7 @@ ceiling_of-requires c =
     record { looked = look_passed a.job a.table.now (all a.job a.table.now c.in_ok-check.ensures); f32 = each_at F32 nan a.table.now c.type_inv.table }
 
 pub returns-in_err-check : goal.returns-in_err-check
-returns-in_err-check c = refusing c.args.job c.args.table.now _ c.in_err-check.ensures
+returns-in_err-check c = let p = err_from_is_err_and c.from_residual.result c.from_residual.ensures.1 in rw (p.1, p.2) (refusing c.args.job c.args.table.now _ c.in_err-check.ensures)
 
 pub returns : goal.returns
 returns c =

@@ -3,8 +3,12 @@ use mathlib.Core.Path.{◌≡◌, refl, sym, ap, ◌∙◌, subst}
 use mathlib.Core.List.{List}
 use Prim.Native.Nat.{ℕ, ◌<◌}
 use lib.Ieee.{Float, nan}
+use Rattle.std.specs.Prelude.{Err}
+use Rattle.std.proofs.lemmas.Result.{err_from_is_err_and}
 use Rattle.limits.specs.Answers.{value, refused, pass}
 use Rattle.limits.specs.Each.{Each, F32}
+use Rattle.limits.specs.Refusals.{number}
+use Rattle.limits.specs.declared.Refusal.{Refusal}
 use Rattle.limits.proofs.Checks.{all_pass, said, failing}
 use Rattle.limits.proofs.Lists.{each_at}
 use Rattle.orientation_rules.specs.Orientation.{Best, none, found, best_fixed, orientation_checked, orientation_says, Gives}
@@ -16,9 +20,10 @@ use Rattle.orientation.proofs.best_at_orientation.Goals as goal
 
 -- ---- by what the check found
 module _ (gap : Float) (t : List Float) (hue : ℕ) where
-  refusing : (n : ℕ) → refused n ≡ orientation_checked gap t hue pass → refused n ≡ orientation_says gap t hue
+  refusing : (w : Refusal) → refused (number w) ≡ orientation_checked gap t hue pass → Gives (Err w) hue (orientation_says gap t hue)
   unfolding orientation_says orientation_checked
-  refusing n h = sym (failing (orientation_checks gap t hue) (value (best_fixed gap t hue)) tt n (sym h))
+  refusing w h =
+      subst (Gives (Err w) hue) (sym (failing (orientation_checks gap t hue) (value (best_fixed gap t hue)) tt (number w) (sym h))) (record { says = refl; beside = refl })
 
   passing : pass ≡ orientation_checked gap t hue pass → value (best_fixed gap t hue) ≡ orientation_says gap t hue
   unfolding orientation_says orientation_checked
@@ -46,7 +51,8 @@ handed-requires c =
 pub returns-in_err-check : goal.returns-in_err-check
 returns-in_err-check c =
     let a = c.args in
-    subst (Gives _ a.hue) (refusing a.gap a.table.now a.hue _ c.in_err-check.ensures) (record { says = refl; beside = refl })
+    let p = err_from_is_err_and c.from_residual.result c.from_residual.ensures.1 in
+    rw (p.1, p.2) (refusing a.gap a.table.now a.hue _ c.in_err-check.ensures)
 
 pub returns : goal.returns
 returns c =
