@@ -27,15 +27,13 @@ pub fn lch_to_srgb8_gamut_clipped(l: f32, c: f32, cos: f32, sin: f32) -> Clipped
     }
     let mut lo = 0.0f32;
     let mut hi = c;
-    let mut i: u32 = 0;
-    while i < 24 {
+    for _ in 0..24u32 {
         let mid = halving::midpoint(lo, hi);
         if color::lch_in_gamut(l, mid, cos, sin) {
             lo = mid;
         } else {
             hi = mid;
         }
-        i += 1;
     }
     Clipped {
         color: srgb::linear_to_srgb8(color::lab_to_linear(color::lch_to_lab(

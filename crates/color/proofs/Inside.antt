@@ -2,21 +2,22 @@
 use mathlib.Core.Path.{◌≡◌, refl}
 use mathlib.Core.Bool.{Bool, true, false, cond}
 use Prim.Native.Nat.{ℕ}
-use native.Mathlib.Omega.{arith}
 use lib.Ieee.{Float}
 use Rattle.limits.specs.Answers.{value, refused}
 use Rattle.limits.specs.Taken.{root_operand_taken}
-use Rattle.roots.specs.declared.Root.{Root}
-use Rattle.roots.specs.declared.Root.TheVariants.{Is, Refused}
-use Rattle.roots.specs.Roots.{said, root_of, root_says}
-use Rattle.color.specs.Color.{or_operand, root_inside}
+use Rattle.std.specs.Prelude.{Result, Ok, Err}
+use Rattle.std.specs.Result.{result_unwrap_or}
+use Rattle.limits.specs.declared.Refusal.{Refusal}
+use Rattle.limits.specs.Refusals.{said}
+use Rattle.roots.specs.Roots.{root_of, root_says}
+use Rattle.color.specs.Color.{root_inside}
 
-pub inside : (n : ℕ) (x : Float) (root : Root) → said root ≡ root_says n x → or_operand root x ≡ root_inside n x
+pub inside : (n : ℕ) (x : Float) (root : Result Float Refusal) → said root ≡ root_says n x → result_unwrap_or root x ≡ root_inside n x
 unfolding root_says root_inside
 inside n x root s = go (root_operand_taken x) root s
   where
-    go : (t : Bool) (root : Root) → said root ≡ cond t (value (root_of n x)) (refused 16) → or_operand root x ≡ cond t (root_of n x) x
-    go true (Is v) h = cc
-    go true (Refused w) h = absurd (let z : ◌≡◌ {A = ℕ} 0 1 = cc in omega arith)
-    go false (Is v) h = absurd (let z : ◌≡◌ {A = ℕ} 0 1 = cc in omega arith)
-    go false (Refused w) h = refl
+    go : (t : Bool) (root : Result Float Refusal) → said root ≡ cond t (value (root_of n x)) (refused 16) → result_unwrap_or root x ≡ cond t (root_of n x) x
+    go true (Ok v) h = cc
+    go true (Err w) h = cc
+    go false (Ok v) h = cc
+    go false (Err w) h = refl

@@ -4,8 +4,6 @@ use Rattle.std.specs.Prelude.{ℕ, Bool, cond, List, [], ◌∷◌, Float, get_o
 use Rattle.std.specs.Float.{nan, binary32}
 use Rattle.std.specs.Float.Ieee.{add, sub, mul, div, lt}
 use Rattle.limits.specs.Taken.{f32_of, root_operand_taken}
-use Rattle.roots.specs.declared.Root.{Root}
-use Rattle.roots.specs.declared.Root.TheVariants.{Is, Refused}
 use Rattle.roots.specs.Roots.{root_of}
 use Rattle.srgb.specs.declared.Srgb8.{Srgb8}
 use Rattle.srgb.specs.declared.Linear.{Linear}
@@ -14,11 +12,6 @@ use Rattle.color.specs.declared.Lab.{Lab}
 use Rattle.color.specs.Constants.{to_xyz, from_xyz, row, white, delta_cubed, slope, offset, delta}
 
 -- ---- roots: "The conversions refuse nothing", and no negative operand comes here
-
--- the answer's root, or the operand where the answer refuses it
-abbrev pub or_operand : Root → Float → Float
-or_operand (Is r) x = r
-or_operand (Refused w) x = x
 
 -- the root of plus infinity is plus infinity, that of NaN is NaN
 unfoldable pub root_inside : ℕ → Float → Float

@@ -4,9 +4,8 @@
 #![tactic(auto)]
 
 ghost use Rattle.std.specs.Prelude.{◌≡◌};
-ghost use Rattle.color.specs.Color.{or_operand, root_inside, weigh, linear_to_xyz, xyz_to_linear, lab_f, lab_fInv, xyz_to_lab, lab_to_xyz, linear_to_lab, lab_to_linear, srgb8_to_lab, chroma_of, lch_to_lab, lch_in_gamut};
+ghost use Rattle.color.specs.Color.{root_inside, weigh, linear_to_xyz, xyz_to_linear, lab_f, lab_fInv, xyz_to_lab, lab_to_xyz, linear_to_lab, lab_to_linear, srgb8_to_lab, chroma_of, lch_to_lab, lch_in_gamut};
 
-use roots::Root;
 pub use srgb::{Linear, Srgb8};
 
 // CIELAB under D65.
@@ -34,28 +33,18 @@ const FROM_XYZ: [[f32; 3]; 3] = [
 // The white point D65 in XYZ, Y being 1.
 const D65: [f32; 3] = [0.95047, 1.0, 1.08883];
 
-// A root inside a conversion, where nothing is refused: plus infinity and NaN come back as they are.
-fn or_operand(root: Root, x: f32) -> f32
-    ensures { result ≡ or_operand root x }
-{
-    match root {
-        Root::Is(r) => r,
-        Root::Refused(_) => x,
-    }
-}
-
-// The square root inside a conversion.
+// The square root inside a conversion, where nothing is refused: plus infinity and NaN come back as they are.
 fn sqrt_inside(x: f32) -> f32
     ensures { result ≡ root_inside 2 x }
 {
-    or_operand(roots::sqrt(x), x)
+    roots::sqrt(x).unwrap_or(x)
 }
 
-// The cube root inside a conversion.
+// The cube root inside a conversion, where nothing is refused either.
 fn cbrt_inside(x: f32) -> f32
     ensures { result ≡ root_inside 3 x }
 {
-    or_operand(roots::cbrt(x), x)
+    roots::cbrt(x).unwrap_or(x)
 }
 
 // Three numbers weighted by a row of a matrix.
@@ -80,9 +69,7 @@ pub fn linear_to_xyz(c: Linear) -> [f32; 3]
 pub fn xyz_to_linear(xyz: [f32; 3]) -> Linear
     ensures { result ≡ xyz_to_linear xyz }
 {
-    let x = xyz[0];
-    let y = xyz[1];
-    let z = xyz[2];
+    let [x, y, z] = xyz;
     Linear {
         r: weighted(FROM_XYZ[0], x, y, z),
         g: weighted(FROM_XYZ[1], x, y, z),
@@ -115,9 +102,10 @@ pub fn lab_f_inv(t: f32) -> f32
 pub fn xyz_to_lab(xyz: [f32; 3]) -> Lab
     ensures { result ≡ xyz_to_lab xyz }
 {
-    let fx = lab_f(xyz[0] / D65[0]);
-    let fy = lab_f(xyz[1] / D65[1]);
-    let fz = lab_f(xyz[2] / D65[2]);
+    let [x, y, z] = xyz;
+    let fx = lab_f(x / D65[0]);
+    let fy = lab_f(y / D65[1]);
+    let fz = lab_f(z / D65[2]);
     Lab {
         l: 116.0 * fy - 16.0,
         a: 500.0 * (fx - fy),

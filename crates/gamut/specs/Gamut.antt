@@ -3,12 +3,9 @@ use Rattle.std.specs.Prelude.{ℕ, zero, suc, false, ◌&&◌, cond, List, [], �
 use Rattle.std.specs.Float.{nan, binary32}
 use Rattle.std.specs.Float.Ieee.{round, add, mul}
 use Rattle.limits.specs.Answers.{Said, value, refused}
-use Rattle.limits.specs.Refusals.{number}
 use Rattle.limits.specs.Taken.{f32_of, directions_taken}
 use Rattle.halving.specs.Midpoint.{halve}
 use Rattle.color.specs.Color.{lch_in_gamut}
-use Rattle.gamut.specs.declared.Filling.{Filling}
-use Rattle.gamut.specs.declared.Filling.TheVariants.{Filled, Refused}
 
 -- level i is 12 + 0.5 × i
 unfoldable pub level_of : ℕ → Float
@@ -28,11 +25,6 @@ entries_from l cs ss (suc n) j = max_chroma l (get_or cs j nan) (get_or ss j nan
 -- the row at lightness l: what `max_chroma` gives in each of the 720 directions
 unfoldable pub row_of : Float → List Float → List Float → List Float
 row_of l cs ss = entries_from l cs ss 720 0
-
--- what an answer hands back: accepted, it says no more than that
-abbrev pub fill_said : Filling → Said (Unit {0})
-fill_said Filled = value tt
-fill_said (Refused w) = refused (number w)
 
 -- refusals 9, 10, 11, the lowest that applies
 unfoldable pub fill_says : ℕ → List Float → List Float → List Float → Said (Unit {0})

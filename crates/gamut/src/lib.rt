@@ -5,11 +5,11 @@
 
 ghost use Rattle.std.specs.Prelude.{◌≡◌, ◌≤◌, length};
 ghost use Rattle.limits.specs.Answers.{value};
-ghost use Rattle.limits.specs.Refusals.{check_said};
-ghost use Rattle.gamut.specs.Gamut.{level_of, max_chroma, fill_said, fill_says, row_after, row_of};
+ghost use Rattle.limits.specs.Refusals.{said};
+ghost use Rattle.gamut.specs.Gamut.{level_of, max_chroma, fill_says, row_after, row_of};
 ghost use Rattle.gamut.specs.Table.{table_taken, table_checked};
 
-use limits::{Checked, Refusal};
+use limits::Refusal;
 
 // The shape of a table: rows of 720 entries, one for each level, lent as one slice. The calls take the slice itself; the type is where
 // the table constants stand.
@@ -40,34 +40,26 @@ impl Gamut {
 }
 
 // Whether a slice is taken as a table, by its length.
+#[tactic(auto, unfolding(crate::specs::Table::table_taken, crate::specs::Table::levels_in))]
 pub fn takes_table(table: &[f32]) -> bool
     ensures { result ≡ table_taken table.now }
 {
-    let n = table.len();
-    let levels = n / Gamut::HUES;
-    n == levels * Gamut::HUES && 1 <= levels && levels <= Gamut::LEVELS
+    let levels = table.len() / Gamut::HUES;
+    table.len() == levels * Gamut::HUES && (1..=Gamut::LEVELS).contains(&levels)
 }
 
 // The first refusal of a table that is read whole, of 6 and 7.
-pub fn check_table(table: &[f32]) -> Checked
-    ensures { check_said result ≡ table_checked table.now (value tt) }
+#[tactic(auto, unfolding(crate::specs::Table::table_checked))]
+pub fn check_table(table: &[f32]) -> Result<(), Refusal>
+    ensures { said result ≡ table_checked table.now (value tt) }
 {
     if !takes_table(table) {
-        return Checked::Wrong(Refusal::TableLength);
+        return Err(Refusal::TableLength);
     }
     if !limits::takes_entries(table) {
-        return Checked::Wrong(Refusal::Entry);
+        return Err(Refusal::Entry);
     }
-    Checked::Fine
-}
-
-// Whether a row was filled, or why not.
-#[derive(Clone, Copy)]
-pub enum Filling {
-    // every entry of the row is written
-    Filled,
-    // refused by 9, 10 or 11: the row is as before
-    Refused(Refusal),
+    Ok(())
 }
 
 // The chroma at lightness l in the direction (cos, sin) that 40 halvings from 0 to 200 end at, or 200 where that is in gamut. More may
@@ -80,24 +72,21 @@ pub fn max_chroma(l: f32, cos: f32, sin: f32) -> f32
     }
     let mut lo = 0.0f32;
     let mut hi = Gamut::C_PROBE;
-    let mut i: u32 = 0;
-    while i < 40 {
+    for _ in 0..40u32 {
         let mid = halving::midpoint(lo, hi);
         if color::lch_in_gamut(l, mid, cos, sin) {
-            if f32::to_bits(mid) == f32::to_bits(lo) {
+            if mid.to_bits() == lo.to_bits() {
                 return lo;
             }
             lo = mid;
         } else {
-            if f32::to_bits(mid) == f32::to_bits(hi) {
+            if mid.to_bits() == hi.to_bits() {
                 return lo;
             }
             hi = mid;
         }
-        i += 1;
     }
-    let chroma = lo;
-    chroma
+    lo
 }
 
 // Writes the entries of the row at lightness l.
@@ -105,28 +94,26 @@ fn fill(l: f32, cos: &[f32], sin: &[f32], row: &mut [f32])
     requires { (length cos.now ≡ 720) × ((length sin.now ≡ 720) × (length row.old ≡ 720)) }
     ensures { row.new ≡ row_of l cos.now sin.now }
 {
-    let mut j: usize = 0;
-    while j < 720 {
-        row[j] = max_chroma(l, cos[j], sin[j]);
-        j += 1;
+    for (j, entry) in row.iter_mut().enumerate() {
+        *entry = max_chroma(l, cos[j], sin[j]);
     }
 }
 
-// Fills the row of one level, by 720 lent directions.
+// Fills the row of one level, by 720 lent directions. Refused by 9, 10 or 11, and then the row is as before.
 #[tactic(auto, unfolding(crate::specs::Gamut::fill_says, crate::specs::Gamut::row_after))]
-pub fn fill_row(level: usize, cos: &[f32], sin: &[f32], row: &mut [f32]) -> Filling
-    ensures { (fill_said result ≡ fill_says level cos.now sin.now row.old)
+pub fn fill_row(level: usize, cos: &[f32], sin: &[f32], row: &mut [f32]) -> Result<(), Refusal>
+    ensures { (said result ≡ fill_says level cos.now sin.now row.old)
         × (row.new ≡ row_after level cos.now sin.now row.old) }
 {
-    if limits::takes_directions(cos, sin) {
-        if row.len() == Gamut::HUES {
-            if level < Gamut::LEVELS {
-                fill(Gamut::l_of(level as u16), cos, sin, row);
-                return Filling::Filled;
-            }
-            return Filling::Refused(Refusal::LevelIndex);
-        }
-        return Filling::Refused(Refusal::RowLength);
+    if !limits::takes_directions(cos, sin) {
+        return Err(Refusal::Directions);
     }
-    Filling::Refused(Refusal::Directions)
+    if row.len() != Gamut::HUES {
+        return Err(Refusal::RowLength);
+    }
+    if level >= Gamut::LEVELS {
+        return Err(Refusal::LevelIndex);
+    }
+    fill(Gamut::l_of(level as u16), cos, sin, row);
+    Ok(())
 }

@@ -1,16 +1,11 @@
 -- Document 01's stand-in for `atan2`: x(j) = cos(j) × b - sin(j) × a; the first j with x(j) ≥ 0 and x(j+1) < 0, 720 counting as 0;
 -- with y = -x(j+1) the hue is 0.5 × (j + x / (x + y)); no such j gives 0. Definitions only.
-use Rattle.std.specs.Prelude.{ℕ, zero, suc, ◌+◌, ◌%◌, Bool, false, ◌&&◌, cond, List, [], ◌∷◌, leb, Float, get_or, replicate}
+use Rattle.std.specs.Prelude.{ℕ, zero, suc, ◌+◌, ◌%◌, Bool, false, ◌&&◌, cond, List, [], ◌∷◌, leb, Float, get_or}
 use Rattle.std.specs.Float.{nan, binary32}
 use Rattle.std.specs.Float.Ieee.{round, add, sub, mul, div, neg, lt, le}
 use Rattle.limits.specs.Answers.{Said, value, refused}
-use Rattle.limits.specs.Refusals.{number}
 use Rattle.limits.specs.Taken.{f32_of, directions_taken, hue_operand_taken}
 use Rattle.srgb.specs.declared.Srgb8.{Srgb8}
-use Rattle.hue.specs.declared.Hue.{Hue}
-use Rattle.hue.specs.declared.Hue.TheVariants.{Degrees, Refused}
-use Rattle.hue.specs.declared.Hued.{Hued}
-use Rattle.hue.specs.declared.Hued.TheVariants as hued
 use Rattle.color.specs.Color.{srgb8_to_lab}
 
 -- x(j)
@@ -47,11 +42,6 @@ hue_from cs ss a b (suc n) j =
 unfoldable pub hue_of : List Float → List Float → Float → Float → Float
 hue_of cs ss a b = hue_from cs ss a b 720 0
 
--- what an answer hands back
-abbrev pub hue_said : Hue → Said Float
-hue_said (Degrees h) = value h
-hue_said (Refused w) = refused (number w)
-
 -- refusals 9, then 16
 unfoldable pub hue_says : List Float → List Float → Float → Float → Said Float
 hue_says cs ss a b = cond (directions_taken cs ss) (cond (hue_operand_taken a && hue_operand_taken b) (value (hue_of cs ss a b)) (refused 16)) (refused 9)
@@ -70,12 +60,3 @@ color_hues cs ss (suc n) (c ∷ colors) = color_hue cs ss c ∷ color_hues cs ss
 -- refusals 9, and 13 for a number beside 32 colours that is above 32; never 16
 unfoldable pub hues_says : List Float → List Float → ℕ → List Srgb8 → Said (List Float)
 hues_says cs ss n colors = cond (directions_taken cs ss) (cond (leb n 32) (value (color_hues cs ss n colors)) (refused 13)) (refused 9)
-
--- what an answer hands back, with the degrees that stand beside it: all zero where it is refused
-abbrev pub hues_said : Hued → List Float → Said (List Float)
-hues_said hued.Given degrees = value degrees
-hues_said (hued.Refused w) degrees = refused (number w)
-
-abbrev pub degrees_beside : Said (List Float) → List Float
-degrees_beside (value degrees) = degrees
-degrees_beside (refused n) = replicate 32 (f32_of 0)

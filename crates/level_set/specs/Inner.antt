@@ -7,6 +7,12 @@ use Rattle.placement_rules.specs.Placing.{step_for}
 use Rattle.pair_rules.specs.Rows.{lesser}
 use Rattle.level_set_rules.specs.Meant.{SetTaken}
 
+-- a level of a table
+pub record LevelOf (t : List Float) (level : ℕ) : Type 0 where
+  pub long : length t ≡ levels_in t * 720
+  pub few_levels : levels_in t ≤ 169
+  pub within : level < levels_in t
+
 -- some levels of a table
 pub record Named (t : List Float) (levels : List ℕ) : Type 0 where
   pub long : length t ≡ levels_in t * 720

@@ -5,10 +5,11 @@
 ghost use Rattle.std.specs.Prelude.{◌≡◌, ℕ, length};
 ghost use Rattle.limits.specs.Answers.{value, refused, Untouched};
 ghost use Rattle.limits.specs.Refusals.{number, check_said};
+ghost use Rattle.gamut.specs.Table.{row_at};
 ghost use Rattle.pair_rules.specs.Rows.{least_row};
 ghost use Rattle.pair_rules.specs.Pair.{entries_taken, Gives};
 ghost use Rattle.level_set_rules.specs.Set.{rows_at, set_over, indices_taken, named_checked, set_says};
-ghost use Rattle.level_set.specs.Inner.{Named, Long, Endless, Lowered, Taken};
+ghost use Rattle.level_set.specs.Inner.{LevelOf, Named, Long, Endless, Lowered, Taken};
 
 use gamut::Gamut;
 use limits::{Checked, Refusal};
@@ -19,14 +20,17 @@ use placement_checks::Stepping;
 fn takes_indices(levels: &[usize], n: usize) -> bool
     ensures { result ≡ indices_taken n levels.now }
 {
-    let mut i = 0;
-    while i < levels.len() {
-        if n <= levels[i] {
-            return false;
-        }
-        i += 1;
-    }
-    true
+    levels.iter().all(|&level| level < n)
+}
+
+// The row of a level of the table.
+#[tactic(auto, using(gamut::proofs::Table::part_row))]
+fn row_at(table: &[f32], level: usize) -> &[f32]
+    requires { LevelOf table.now level }
+    ensures { result.now ≡ row_at table.now level }
+{
+    let from = level * Gamut::HUES;
+    &table[from..from + Gamut::HUES]
 }
 
 // Whether each entry of each row named is taken.
@@ -34,15 +38,9 @@ fn takes_rows(table: &[f32], levels: &[usize]) -> bool
     requires { Named table.now levels.now }
     ensures { result ≡ entries_taken (rows_at table.now levels.now) }
 {
-    let mut i = 0;
-    while i < levels.len() {
-        let from = levels[i] * Gamut::HUES;
-        if !limits::takes_entries(&table[from..from + Gamut::HUES]) {
-            return false;
-        }
-        i += 1;
-    }
-    true
+    levels
+        .iter()
+        .all(|&level| limits::takes_entries(row_at(table, level)))
 }
 
 // The first refusal of a call whose hue count is taken, of 6, 8, 18, 11 and, over the rows named, 7.
@@ -72,12 +70,9 @@ fn lower(by: &[f32], row: &mut [f32])
     requires { Long by.now row.old }
     ensures { Lowered by.now row.old row.new }
 {
-    let mut i = 0;
-    while i < row.len() {
-        let x = by[i];
-        let y = row[i];
-        row[i] = if y < x { y } else { x };
-        i += 1;
+    for (i, value) in row.iter_mut().enumerate() {
+        let entry = by[i];
+        *value = if *value < entry { *value } else { entry };
     }
 }
 
@@ -86,11 +81,8 @@ fn lower_all(table: &[f32], levels: &[usize], row: &mut [f32])
     requires { Named table.now levels.now × Endless row.old }
     ensures { row.new ≡ least_row (rows_at table.now levels.now) }
 {
-    let mut left = levels.len();
-    while 0 < left {
-        left -= 1;
-        let from = levels[left] * Gamut::HUES;
-        lower(&table[from..from + Gamut::HUES], row);
+    for &level in levels.iter().rev() {
+        lower(row_at(table, level), row);
     }
 }
 

@@ -7,10 +7,10 @@ use mathlib.Core.List.{List, [], ◌∷◌}
 use Prim.Native.Nat.{ℕ}
 use native.Mathlib.Omega.{arith}
 use Rattle.limits.specs.Answers.{Said, value, refused, pass}
-use Rattle.limits.specs.Refusals.{number, check_said}
+use Rattle.limits.specs.Refusals.{number}
+use Rattle.limits.specs.Refusals as refusals
 use Rattle.limits.specs.declared.Refusal.{Refusal}
-use Rattle.limits.specs.declared.Checked.{Checked}
-use Rattle.limits.specs.declared.Checked.TheVariants.{Fine, Wrong}
+use Rattle.std.specs.Prelude.{Result, Ok, Err}
 
 -- whether a check passes, and its number
 pub record Check : Type 0 where
@@ -53,18 +53,18 @@ failing (c ∷ cs) x y n h = go c.passes (λ (k : through cs (value y) ≡ refus
     go true rest h = rest h
 
 -- ---- by what a function that makes the checks hands back
-module _ (cs : List Check) (r : Checked) (says : check_said r ≡ through cs pass) where
+module _ (cs : List Check) (r : Result (Unit {0}) Refusal) (says : refusals.said r ≡ through cs pass) where
   -- all pass
-  pub passed : r ≡ Fine → AllPass cs
-  passed f = (all_pass cs pass tt (sym says ∙ ap check_said f)).0
+  pub passed : r ≡ Ok tt → AllPass cs
+  passed f = (all_pass cs pass tt (sym says ∙ ap refusals.said f)).0
 
   -- what a good call says is said
-  pub fine : {A : Type 0} (x : Said A) → r ≡ Fine → through cs x ≡ x
+  pub fine : {A : Type 0} (x : Said A) → r ≡ Ok tt → through cs x ≡ x
   fine x f = said cs x (passed f)
 
   -- one fails: its number is said
-  pub wrong : {A : Type 0} (x : Said A) (w : Refusal) → r ≡ Wrong w → through cs x ≡ refused (number w)
-  wrong x w f = failing cs x tt (number w) (sym says ∙ ap check_said f)
+  pub wrong : {A : Type 0} (x : Said A) (w : Refusal) → r ≡ Err w → through cs x ≡ refused (number w)
+  wrong x w f = failing cs x tt (number w) (sym says ∙ ap refusals.said f)
 
 -- nothing is both said and refused
 pub said_twice : {A B : Type 0} {x : Said A} {a : A} {n : ℕ} → x ≡ value a → x ≡ refused n → B

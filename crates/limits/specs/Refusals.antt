@@ -1,8 +1,6 @@
--- Document 01, "What a call can hand back": the number of each refusal, 18 and 19 as document 02 gives them (Req 03, Req 06), and what checks hand back. Definitions only.
-use Rattle.std.specs.Prelude.{ℕ}
+-- Document 01, "What a call can hand back": the number of each refusal, 18 and 19 as document 02 gives them (Req 03, Req 06), and what a call hands back. Definitions only.
+use Rattle.std.specs.Prelude.{ℕ, Result, Ok, Err}
 use Rattle.limits.specs.Answers.{Said, value, refused}
-use Rattle.limits.specs.declared.Checked.{Checked}
-use Rattle.limits.specs.declared.Checked.TheVariants.{Fine, Wrong}
 use Rattle.limits.specs.declared.Refusal.{Refusal}
 use Rattle.limits.specs.declared.Refusal.TheVariants.{HueCount, Gap, Chroma, RingLength, Spacing, TableLength, Entry, WorkBuffer, Directions, RowLength, LevelIndex, HueIndex, ColorCount, Finished, Broken, Operand, Line, LevelList, TextBuffer}
 
@@ -27,7 +25,7 @@ number Line = 17
 number LevelList = 18
 number TextBuffer = 19
 
--- what the check of the arguments hands back
-abbrev pub check_said : Checked → Said (Unit {0})
-check_said Fine = value tt
-check_said (Wrong w) = refused (number w)
+-- what is handed back says: its value, or the number of its refusal
+abbrev pub said : {A : Type 0} → Result A Refusal → Said A
+said (Ok x) = value x
+said (Err why) = refused (number why)

@@ -7,57 +7,47 @@ ghost use Rattle.std.specs.Prelude.{◌≡◌, not};
 ghost use Rattle.limits.specs.Refusals.{number};
 ghost use Rattle.limits.specs.Taken.{outside, sign_clear, up_to, hue_count_taken, gap_taken, chroma_taken, entry_taken, direction_taken, root_operand_taken, hue_operand_taken, every, directions_taken};
 
-// Why a call was refused. The comment is document 01's number, from 18 on that of document 02, whose Req 04 words 8 and whose Req 05
-// adds to 2.
+// Why a call was refused, with document 01's number, from 18 on that of document 02, whose Req 04 words 8 and whose Req 05 adds to 2.
 #[derive(Clone, Copy)]
 pub enum Refusal {
-    // 1: hue count k not 1 to 16
-    HueCount,
-    // 2: gap NaN, sign bit set, or above 84; where a job is begun also below 40
-    Gap,
-    // 3: chroma NaN, sign bit set, or above 200
-    Chroma,
-    // 4: ring length not 1 to 720, or two rows of unequal length
-    RingLength,
-    // 5: spacing 0 or above the ring length
-    Spacing,
-    // 6: table length not levels × 720 with 1 to 169 levels
-    TableLength,
-    // 7: an entry read that is NaN, has its sign bit set, or exceeds 200
-    Entry,
-    // 8: work buffer shorter than one ring length
-    WorkBuffer,
-    // 9: cosine or sine slice not 720 long, or a component NaN or outside -1 to 1
-    Directions,
-    // 10: row to fill not 720 long
-    RowLength,
-    // 11: level index above 168, or not below the number of levels of the table that it is of
-    LevelIndex,
-    // 12: one of the first k hue indices above 719
-    HueIndex,
-    // 13: colour count not 2k
-    ColorCount,
-    // 14: job finished
-    Finished,
-    // 15: job record broken: a field out of range, or position above levels²
-    Broken,
-    // 16: root operand not finite or with sign bit set; hue operand NaN or beyond ±1000
-    Operand,
-    // 17: text line malformed
-    Line,
-    // 18: list of levels empty, or of more than 8
-    LevelList,
-    // 19: buffer to write a text into shorter than what is written
-    TextBuffer,
-}
-
-// What some checks made one after the other found.
-#[derive(Clone, Copy)]
-pub enum Checked {
-    // all pass
-    Fine,
-    // the first refusal that applies
-    Wrong(Refusal),
+    // hue count k not 1 to 16
+    HueCount = 1,
+    // gap NaN, sign bit set, or above 84; where a job is begun also below 40
+    Gap = 2,
+    // chroma NaN, sign bit set, or above 200
+    Chroma = 3,
+    // ring length not 1 to 720, or two rows of unequal length
+    RingLength = 4,
+    // spacing 0 or above the ring length
+    Spacing = 5,
+    // table length not levels × 720 with 1 to 169 levels
+    TableLength = 6,
+    // an entry read that is NaN, has its sign bit set, or exceeds 200
+    Entry = 7,
+    // work buffer shorter than one ring length
+    WorkBuffer = 8,
+    // cosine or sine slice not 720 long, or a component NaN or outside -1 to 1
+    Directions = 9,
+    // row to fill not 720 long
+    RowLength = 10,
+    // level index above 168, or not below the number of levels of the table that it is of
+    LevelIndex = 11,
+    // one of the first k hue indices above 719
+    HueIndex = 12,
+    // colour count not 2k
+    ColorCount = 13,
+    // job finished
+    Finished = 14,
+    // job record broken: a field out of range, or position above levels²
+    Broken = 15,
+    // root operand not finite or with sign bit set; hue operand NaN or beyond ±1000
+    Operand = 16,
+    // text line malformed
+    Line = 17,
+    // list of levels empty, or of more than 8
+    LevelList = 18,
+    // buffer to write a text into shorter than what is written
+    TextBuffer = 19,
 }
 
 impl Refusal {
@@ -65,64 +55,36 @@ impl Refusal {
     pub fn number(self) -> u8
         ensures { result ≡ number self }
     {
-        match self {
-            Refusal::HueCount => 1,
-            Refusal::Gap => 2,
-            Refusal::Chroma => 3,
-            Refusal::RingLength => 4,
-            Refusal::Spacing => 5,
-            Refusal::TableLength => 6,
-            Refusal::Entry => 7,
-            Refusal::WorkBuffer => 8,
-            Refusal::Directions => 9,
-            Refusal::RowLength => 10,
-            Refusal::LevelIndex => 11,
-            Refusal::HueIndex => 12,
-            Refusal::ColorCount => 13,
-            Refusal::Finished => 14,
-            Refusal::Broken => 15,
-            Refusal::Operand => 16,
-            Refusal::Line => 17,
-            Refusal::LevelList => 18,
-            Refusal::TextBuffer => 19,
-        }
+        self as u8
     }
 }
 
 // Whether x is a number from lo to hi.
+#[tactic(auto, unfolding(crate::specs::Taken::outside), using(crate::proofs::Floats::differs))]
 fn within(x: f32, lo: f32, hi: f32) -> bool
     ensures { result ≡ not (outside lo hi x) }
 {
-    if x != x {
-        return false;
-    }
-    if x < lo {
-        return false;
-    }
-    !(hi < x)
+    !(x != x || x < lo || hi < x)
 }
 
 // Whether the sign bit of x is clear. A NaN, which has no sign here, does not pass.
+#[tactic(auto, unfolding(crate::specs::Taken::sign_clear), using(crate::proofs::Floats::differs))]
 fn sign_clear(x: f32) -> bool
     ensures { result ≡ sign_clear x }
 {
-    if x != x {
-        return false;
-    }
-    f32::to_bits(x) < 0x8000_0000
+    x == x && x.to_bits() < 0x8000_0000
 }
 
 // Whether x is a number from plus 0 to `most`.
+#[tactic(auto, unfolding(crate::specs::Taken::up_to))]
 fn up_to(x: f32, most: f32) -> bool
     ensures { result ≡ up_to most x }
 {
-    if sign_clear(x) {
-        return !(most < x);
-    }
-    false
+    sign_clear(x) && !(most < x)
 }
 
 // Whether k is accepted as a hue count (number 1).
+#[tactic(auto, unfolding(crate::specs::Taken::hue_count_taken))]
 pub fn takes_hue_count(k: usize) -> bool
     ensures { result ≡ hue_count_taken k }
 {
@@ -161,10 +123,7 @@ pub fn takes_direction(x: f32) -> bool
 pub fn takes_root_operand(x: f32) -> bool
     ensures { result ≡ root_operand_taken x }
 {
-    if sign_clear(x) {
-        return x < f32::from_bits(0x7f80_0000);
-    }
-    false
+    sign_clear(x) && x < f32::INFINITY
 }
 
 // Whether x is accepted as a or b of a hue (number 16).
@@ -179,10 +138,8 @@ pub fn takes_entries(entries: &[f32]) -> bool
     ensures { result ≡ every entry_taken entries.now }
 {
     let mut all = true;
-    let mut i = 0;
-    while i < entries.len() {
-        all = all & takes_entry(entries[i]);
-        i += 1;
+    for x in entries {
+        all &= takes_entry(*x);
     }
     all
 }
@@ -192,20 +149,16 @@ fn takes_components(components: &[f32]) -> bool
     ensures { result ≡ every direction_taken components.now }
 {
     let mut all = true;
-    let mut j = 0;
-    while j < components.len() {
-        all = all & takes_direction(components[j]);
-        j += 1;
+    for x in components {
+        all &= takes_direction(*x);
     }
     all
 }
 
 // Whether two slices are taken as the cosines and the sines of the 720 directions.
+#[tactic(auto, unfolding(crate::specs::Taken::directions_taken))]
 pub fn takes_directions(cos: &[f32], sin: &[f32]) -> bool
     ensures { result ≡ directions_taken cos.now sin.now }
 {
-    if (cos.len() == 720) & (sin.len() == 720) {
-        return takes_components(cos) & takes_components(sin);
-    }
-    false
+    cos.len() == 720 && sin.len() == 720 && takes_components(cos) && takes_components(sin)
 }

@@ -3,10 +3,10 @@
 // Its cases are in `palette_cases`.
 #![tactic(auto)]
 
-ghost use Rattle.std.specs.Prelude.{◌≡◌, false, ◌-◌, ◌≤◌, min, take, drop};
+ghost use Rattle.std.specs.Prelude.{◌≡◌, false, take, drop, fold};
 ghost use Rattle.std.specs.Float.{inf, binary32};
 ghost use Rattle.std.specs.Float.Ieee.{sub};
-ghost use Rattle.pair_rules.specs.Rows.{greater};
+ghost use Rattle.pair_rules.specs.Rows.{lesser, greater};
 ghost use Rattle.metrics.specs.Metrics.{highest, lowest, greatest, least, spread_in, absolute, apart, least_from, least_apart};
 
 // What is measured of a palette.
@@ -22,61 +22,48 @@ pub struct Metrics {
     pub chroma: f32,
 }
 
-// The greatest and the least finite f32.
-const HIGHEST: f32 = 3.4028235e38;
-
-const LOWEST: f32 = -3.4028235e38;
-
-// The greatest of the numbers from place `at` up to place `to`.
-fn greatest(values: [f32; 32], at: usize, to: usize) -> f32
-    requires { to ≤ 32 }
-    ensures { result ≡ greatest lowest (take (to - at) (drop at values)) }
+// The lesser of two numbers, by one comparison: `f32::min` leaves open which of two zeros it gives.
+#[tactic(auto, unfolding(pair_rules::specs::Rows::lesser))]
+fn lesser(a: f32, b: f32) -> f32
+    ensures { result ≡ lesser a b }
 {
-    let mut hi = LOWEST;
-    let mut i = at;
-    while i < to {
-        let v = values[i];
-        if hi < v {
-            hi = v;
-        }
-        i += 1;
-    }
-    hi
+    if b < a { b } else { a }
 }
 
-// The least of `from` and of those numbers.
-fn least(from: f32, values: [f32; 32], at: usize, to: usize) -> f32
-    requires { to ≤ 32 }
-    ensures { result ≡ least from (take (to - at) (drop at values)) }
+// The greater of two numbers, by one comparison.
+#[tactic(auto, unfolding(pair_rules::specs::Rows::greater))]
+fn greater(a: f32, b: f32) -> f32
+    ensures { result ≡ greater a b }
 {
-    let mut lo = from;
-    let mut i = at;
-    while i < to {
-        let v = values[i];
-        if v < lo {
-            lo = v;
-        }
-        i += 1;
-    }
-    lo
+    if a < b { b } else { a }
 }
 
-// How far those numbers range.
-fn range(values: [f32; 32], at: usize, to: usize) -> f32
-    requires { to ≤ 32 }
-    ensures { result ≡ spread_in (take (to - at) (drop at values)) }
+// The greatest of `from` and of some numbers.
+fn greatest(from: f32, values: &[f32]) -> f32
+    ensures { result ≡ fold greater from values.now }
 {
-    greatest(values, at, to) - least(HIGHEST, values, at, to)
+    values.iter().fold(from, |hi, v| greater(hi, *v))
 }
 
-// A number without its sign.
+// The least of `from` and of some numbers.
+fn least(from: f32, values: &[f32]) -> f32
+    ensures { result ≡ fold lesser from values.now }
+{
+    values.iter().fold(from, |lo, v| lesser(lo, *v))
+}
+
+// How far some numbers range.
+fn range(values: &[f32]) -> f32
+    ensures { result ≡ spread_in values.now }
+{
+    greatest(f32::MIN, values) - least(f32::MAX, values)
+}
+
+// A number without its sign. Minus zero stays, of which `f32::abs` makes plus zero.
 fn absolute(x: f32) -> f32
     ensures { result ≡ absolute x }
 {
-    if x < 0.0 {
-        return -x;
-    }
-    x
+    if x < 0.0 { -x } else { x }
 }
 
 // How far apart two hues are, round the shorter way.
@@ -84,93 +71,66 @@ fn apart(a: f32, b: f32) -> f32
     ensures { result ≡ apart a b }
 {
     let d = absolute(a - b);
-    let other = 360.0 - d;
-    if other < d {
-        return other;
-    }
-    d
+    lesser(d, 360.0 - d)
 }
 
-// The least of `from` and the distances from one hue to those from place `at` up to place `to`.
-fn least_from(from: f32, hue: f32, others: [f32; 32], at: usize, to: usize) -> f32
-    requires { to ≤ 32 }
-    ensures { result ≡ least_from from hue (take (to - at) (drop at others)) }
+// The least of `from` and the distances from one hue to others.
+fn least_from(from: f32, hue: f32, others: &[f32]) -> f32
+    ensures { result ≡ fold (λ so g. lesser so (apart hue g)) from others.now }
+{
+    others
+        .iter()
+        .fold(from, |lo, other| lesser(lo, apart(hue, *other)))
+}
+
+// The least of `from` and the distances of any two of some hues.
+fn least_apart(from: f32, hues: &[f32]) -> f32
+    ensures { result ≡ least_apart from hues.now }
 {
     let mut lo = from;
-    let mut i = at;
-    while i < to {
-        let d = apart(hue, others[i]);
-        if d < lo {
-            lo = d;
-        }
-        i += 1;
+    for (i, hue) in hues.iter().enumerate() {
+        lo = least_from(lo, *hue, &hues[i + 1..]);
     }
     lo
 }
 
-// The least of `from` and the distances of any two of those hues.
-fn least_apart(from: f32, hues: [f32; 32], at: usize, to: usize) -> f32
-    requires { to ≤ 32 }
-    ensures { result ≡ least_apart from (take (to - at) (drop at hues)) }
+// The numbers of the dark level and those of the light one, as far as there are any.
+fn both_levels(k: usize, values: &[f32]) -> (&[f32], &[f32])
+    ensures dark { result.0.now ≡ take k values.now }
+    ensures light { result.1.now ≡ take k (drop k values.now) }
 {
-    let mut lo = from;
-    let mut i = at;
-    while i < to {
-        lo = least_from(lo, hues[i], hues, i + 1, to);
-        i += 1;
-    }
-    lo
-}
-
-// A number, but no more than thirty-two.
-fn bounded(n: usize) -> usize
-    ensures { result ≡ min n 32 }
-{
-    if n < 32 {
-        return n;
-    }
-    32
+    let (dark, rest) = values.split_at(k.min(values.len()));
+    (dark, &rest[..k.min(rest.len())])
 }
 
 // The gap between the levels, by the lightness of their colours.
 pub fn gap_of(k: usize, l: [f32; 32]) -> f32
     ensures { result ≡ sub binary32 (least highest (take k (drop k l))) (greatest lowest (take k l)) }
 {
-    let mid = bounded(k);
-    let end = bounded(mid + mid);
-    least(HIGHEST, l, mid, end) - greatest(l, 0, mid)
+    let (dark, light) = both_levels(k, &l);
+    least(f32::MAX, light) - greatest(f32::MIN, dark)
 }
 
 // The greater spread of both levels, by the lightness of their colours.
 pub fn spread_of(k: usize, l: [f32; 32]) -> f32
     ensures { result ≡ greater (spread_in (take k l)) (spread_in (take k (drop k l))) }
 {
-    let mid = bounded(k);
-    let end = bounded(mid + mid);
-    let dark = range(l, 0, mid);
-    let light = range(l, mid, end);
-    if dark < light {
-        return light;
-    }
-    dark
+    let (dark, light) = both_levels(k, &l);
+    greater(range(dark), range(light))
 }
 
 // The least distance of two hues of a level, of more than one.
 pub fn separation_of(k: usize, h: [f32; 32]) -> f32
     ensures { result ≡ least_apart (least_apart (inf false) (take k h)) (take k (drop k h)) }
 {
-    let mid = bounded(k);
-    let end = bounded(mid + mid);
-    let dark = least_apart(f32::from_bits(0x7f80_0000), h, 0, mid);
-    least_apart(dark, h, mid, end)
+    let (dark, light) = both_levels(k, &h);
+    least_apart(least_apart(f32::INFINITY, dark), light)
 }
 
 // The least chroma of both levels.
 pub fn chroma_of(k: usize, c: [f32; 32]) -> f32
     ensures { result ≡ least (least (inf false) (take k c)) (take k (drop k c)) }
 {
-    let mid = bounded(k);
-    let end = bounded(mid + mid);
-    let dark = least(f32::from_bits(0x7f80_0000), c, 0, mid);
-    least(dark, c, mid, end)
+    let (dark, light) = both_levels(k, &c);
+    least(least(f32::INFINITY, dark), light)
 }

@@ -1,6 +1,7 @@
 -- Document 02, Req 06: the page of a job for the service book, and what laying it out says and leaves in a lent buffer. Bytes are ASCII. Definitions only.
-use Rattle.std.specs.Prelude.{cond, List, [], ◌∷◌, map, ℕ, ◌+◌, ◌*◌, leb, length, take}
+use Rattle.std.specs.Prelude.{cond, Result, Ok, Err, List, [], ◌∷◌, map, ℕ, ◌+◌, ◌*◌, leb, length, take}
 use Rattle.limits.specs.Answers.{Said, value, refused}
+use Rattle.limits.specs.declared.Refusal.{Refusal}
 use Rattle.limits.specs.Refusals.{number}
 use Rattle.search_rules.specs.declared.Best.{Best}
 use Rattle.search_rules.specs.declared.Best.TheVariants.{None, Found}
@@ -8,8 +9,6 @@ use Rattle.search_rules.specs.declared.Job.{Job}
 use Rattle.search_rules.specs.Job.{unbroken}
 use Rattle.text.specs.Put.{over}
 use Rattle.page_lines.specs.Lines.{Row, row, lines_of}
-use Rattle.page.specs.declared.Laid.{Laid}
-use Rattle.page.specs.declared.Laid.TheVariants.{Bytes, Refused}
 use Rattle.page.specs.Chroma.{hundredths, remainder}
 
 -- ---- the words
@@ -79,7 +78,7 @@ page_by (refused n) j before = before
 unfoldable pub page_after : Job → List ℕ → List ℕ
 page_after j before = page_by (page_says j (length before)) j before
 
--- what an answer says
-abbrev pub laid_said : Laid → Said ℕ
-laid_said (Bytes n) = value n
-laid_said (Refused w) = refused (number w)
+-- what a result says
+abbrev pub said : {A : Type 0} → Result A Refusal → Said A
+said (Ok x) = value x
+said (Err w) = refused (number w)

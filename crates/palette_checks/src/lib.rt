@@ -2,13 +2,14 @@
 // Its cases are in `palette_cases`.
 #![tactic(auto)]
 
-ghost use Rattle.std.specs.Prelude.{◌≡◌};
+ghost use Rattle.std.specs.Prelude.{◌≡◌, leb, take};
+ghost use Rattle.std.specs.List.{list_all};
 ghost use Rattle.limits.specs.Answers.{value};
-ghost use Rattle.limits.specs.Refusals.{check_said};
-ghost use Rattle.palette_checks.specs.Designs.{hues_taken, design_checked};
+ghost use Rattle.limits.specs.Refusals.{said};
+ghost use Rattle.palette_checks.specs.Designs.{design_checked};
 
 use gamut::Gamut;
-use limits::{Checked, Refusal};
+use limits::Refusal;
 
 // What a palette is derived from, but for its chroma.
 #[derive(Clone, Copy)]
@@ -24,40 +25,31 @@ pub struct Design {
 }
 
 // Whether the first k of sixteen hue indices are at most 719.
-#[tactic(auto, using(crate::proofs::Hues::next, crate::proofs::Hues::fails, crate::proofs::Hues::none_asked, crate::proofs::Hues::none_left))]
 fn takes_hues(k: usize, hues: [u16; 16]) -> bool
-    ensures { result ≡ hues_taken k hues }
+    ensures { result ≡ list_all (λ h. leb h 719) (take k hues) }
 {
-    let mut i: usize = 0;
-    while i < 16 {
-        if i < k && 719 < hues[i] {
-            return false;
-        }
-        i += 1;
-    }
-    true
+    hues.iter().take(k).all(|hue| *hue <= 719)
 }
 
 // The first refusal of 1, 3, 9, 11 and 12.
-pub fn check_design(design: Design, chroma: f32, cos: &[f32], sin: &[f32]) -> Checked
-    ensures { check_said result ≡ design_checked design chroma cos.now sin.now (value tt) }
+#[tactic(auto, using(crate::proofs::Hues::all_taken), unfolding(crate::specs::Designs::design_checked, crate::specs::Designs::levels_taken))]
+pub fn check_design(design: Design, chroma: f32, cos: &[f32], sin: &[f32]) -> Result<(), Refusal>
+    ensures { said result ≡ design_checked design chroma cos.now sin.now (value tt) }
 {
-    let k = design.k;
-    let hues = design.hues;
-    if !limits::takes_hue_count(k) {
-        return Checked::Wrong(Refusal::HueCount);
+    if !limits::takes_hue_count(design.k) {
+        return Err(Refusal::HueCount);
     }
     if !limits::takes_chroma(chroma) {
-        return Checked::Wrong(Refusal::Chroma);
+        return Err(Refusal::Chroma);
     }
     if !limits::takes_directions(cos, sin) {
-        return Checked::Wrong(Refusal::Directions);
+        return Err(Refusal::Directions);
     }
-    if !(design.dark < Gamut::LEVELS && design.light < Gamut::LEVELS) {
-        return Checked::Wrong(Refusal::LevelIndex);
+    if design.dark >= Gamut::LEVELS || design.light >= Gamut::LEVELS {
+        return Err(Refusal::LevelIndex);
     }
-    if !takes_hues(k, hues) {
-        return Checked::Wrong(Refusal::HueIndex);
+    if !takes_hues(design.k, design.hues) {
+        return Err(Refusal::HueIndex);
     }
-    Checked::Fine
+    Ok(())
 }

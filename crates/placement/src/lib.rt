@@ -2,26 +2,15 @@
 // Its cases are in `placement_cases`.
 #![tactic(auto)]
 
-ghost use Rattle.std.specs.Prelude.{◌≡◌, ℕ, ◌+◌, ◌%◌, ◌≤◌, ◌<◌, min, length, take};
-ghost use Rattle.limits.specs.Answers.{value, Untouched};
-ghost use Rattle.placement_rules.specs.Ring.{nowhere, placed, earliest};
+ghost use Rattle.std.specs.Prelude.{◌≡◌, ◌+◌, ◌%◌, ◌≤◌, ◌<◌, length, take, Some};
+ghost use Rattle.limits.specs.Answers.{Untouched};
+ghost use Rattle.placement_rules.specs.Ring.{placed, earliest};
 ghost use Rattle.placement_rules.specs.Gaps.{around, tightest};
-ghost use Rattle.placement_rules.specs.Placing.{allowed_at, placement_says, is_placed, Gives};
+ghost use Rattle.placement_rules.specs.Placing.{allowed_at, placement_says, Hands, Gives};
 ghost use Rattle.placement.specs.Inner.{Asked, first_allowed, Filled, FillAsked, GapsAsked, placed_from, placed_on};
 
-use limits::Checked;
-pub use placement_rules::{Answer, Placement};
-
-// Nothing is placed.
-fn nowhere() -> Placement
-    ensures { (n k : ℕ) → Gives n k result (value nowhere) }
-{
-    Placement {
-        answer: Answer::Nowhere,
-        hues: [0u16; 16],
-        tightest: 0,
-    }
-}
+use limits::Refusal;
+pub use placement_rules::Placement;
 
 // How far an index lies on from another round a ring.
 fn around(n: usize, i: u16, j: u16) -> usize
@@ -35,24 +24,15 @@ fn around(n: usize, i: u16, j: u16) -> usize
     }
 }
 
-// The smaller of two numbers.
-fn smaller(x: usize, y: usize) -> usize
-    ensures { result ≡ min x y }
-{
-    if x < y { x } else { y }
-}
-
 // The smallest gap of the first k hues round a ring, from the last of them on: from it back to the first, then from each one before
 // it to the next.
 fn tightest(n: usize, k: usize, hues: [u16; 16]) -> usize
     requires { GapsAsked n k hues }
     ensures { result ≡ tightest n (take k hues) }
 {
-    let mut at = k - 1;
-    let mut least = around(n, hues[at], hues[0]);
-    while 0 < at {
-        at -= 1;
-        least = smaller(around(n, hues[at], hues[at + 1]), least);
+    let mut least = around(n, hues[k - 1], hues[0]);
+    for at in (0..k - 1).rev() {
+        least = around(n, hues[at], hues[at + 1]).min(least);
     }
     least
 }
@@ -60,26 +40,23 @@ fn tightest(n: usize, k: usize, hues: [u16; 16]) -> usize
 // These hues are placed.
 fn placed(n: usize, k: usize, hues: [u16; 16]) -> Placement
     requires { GapsAsked n k hues }
-    ensures { Gives n k result (value (placed hues)) }
+    ensures { Hands n k (Some result) (placed hues) }
 {
     Placement {
-        answer: Answer::Placed,
         hues,
         tightest: tightest(n, k, hues),
     }
 }
 
-// The ring's first allowed index, 65535 if there is none.
+// The ring's first allowed index, 65535 if there is none: document 01 names this mark.
 fn first_allowed(m: &[f32], c: f32) -> u16
     requires { length m.now ≤ 720 }
     ensures { result ≡ first_allowed m.now c }
 {
-    let mut i = 0;
-    while i < m.len() {
-        if c <= m[i] {
+    for (i, x) in m.iter().enumerate() {
+        if c <= *x {
             return i as u16;
         }
-        i += 1;
     }
     65535
 }
@@ -91,9 +68,7 @@ fn fill(m: &[f32], c: f32, first: u16, work: &mut [u16])
 {
     let n = m.len();
     let mut seen = n as u16 + first;
-    let mut i = n;
-    while 0 < i {
-        i -= 1;
+    for i in (0..n).rev() {
         if c <= m[i] {
             seen = i as u16;
         }
@@ -123,75 +98,66 @@ fn reduce(j: usize, n: usize) -> u16
 }
 
 // k indices from a start, each the earliest allowed at least `step` further on, by the table of earliest allowed indices.
-fn place_from(m: &[f32], c: f32, next: &[u16], k: usize, step: usize, start: usize) -> Placement
+fn place_from(
+    m: &[f32],
+    c: f32,
+    next: &[u16],
+    k: usize,
+    step: usize,
+    start: usize,
+) -> Option<Placement>
     requires { Asked m.now k step × (Filled m.now c 0 next.now × (start < length m.now)) }
-    ensures { Gives (length m.now) k result (value (placed_from m.now c k step start)) }
+    ensures { Hands (length m.now) k result (placed_from m.now c k step start) }
 {
     if !(c <= m[start]) {
-        return nowhere();
+        return None;
     }
     let n = m.len();
     let stop = start + n;
     let mut hues = [0u16; 16];
     hues[0] = start as u16;
     let mut cur = start;
-    let mut at: usize = 1;
-    while at < k {
+    for at in 1..k {
         let from = cur + step;
         if stop <= from {
-            return nowhere();
+            return None;
         }
         let j = ahead(m, c, next, from);
         if stop <= j {
-            return nowhere();
+            return None;
         }
         hues[at] = reduce(j, n);
         cur = j;
-        at += 1;
     }
     if stop - cur < step {
-        return nowhere();
+        return None;
     }
-    placed(n, k, hues)
+    Some(placed(n, k, hues))
 }
 
 // The first start that succeeds. A start from which k - 1 steps would reach past the ring's end is not tried.
-fn first_start(m: &[f32], c: f32, next: &[u16], k: usize, step: usize) -> Placement
+fn first_start(m: &[f32], c: f32, next: &[u16], k: usize, step: usize) -> Option<Placement>
     requires { Asked m.now k step × Filled m.now c 0 next.now }
-    ensures { Gives (length m.now) k result (value (placed_on m.now c k step)) }
+    ensures { Hands (length m.now) k result (placed_on m.now c k step) }
 {
     let reach = (k - 1) * step;
-    let mut s: usize = 0;
-    while s + reach < m.len() {
+    for s in 0..m.len().saturating_sub(reach) {
         let found = place_from(m, c, next, k, step, s);
-        let answer = found.answer;
-        if is_placed(answer) {
+        if found.is_some() {
             return found;
         }
-        s += 1;
     }
-    nowhere()
-}
-
-// Whether an answer is a placement.
-pub fn is_placed(answer: Answer) -> bool
-    ensures { result ≡ is_placed answer }
-{
-    match answer {
-        Answer::Placed => true,
-        Answer::Nowhere => false,
-        Answer::Refused(_) => false,
-    }
+    None
 }
 
 // The placement on a ring whose arguments are taken.
-fn place(m: &[f32], c: f32, k: usize, step: usize, work: &mut [u16]) -> Placement
+fn place(m: &[f32], c: f32, k: usize, step: usize, work: &mut [u16]) -> Option<Placement>
     requires { Asked m.now k step × (length m.now ≤ length work.old) }
-    ensures { Gives (length m.now) k result (value (placed_on m.now c k step)) }
+    ensures { Hands (length m.now) k result (placed_on m.now c k step) }
 {
     let first = first_allowed(m, c);
     if first == 65535 {
-        return nowhere();
+        return None;
     }
     fill(m, c, first, work);
     first_start(m, c, work, k, step)
@@ -199,17 +165,16 @@ fn place(m: &[f32], c: f32, k: usize, step: usize, work: &mut [u16]) -> Placemen
 
 // k hues at least `step` apart all round a ring, each with an entry of at least c: the first placement, with its smallest gap
 // round the ring, or none. The work buffer's content is left free where the call is accepted, and does not matter.
-pub fn feasible(m: &[f32], c: f32, k: usize, step: usize, work: &mut [u16]) -> Placement
+pub fn feasible(
+    m: &[f32],
+    c: f32,
+    k: usize,
+    step: usize,
+    work: &mut [u16],
+) -> Result<Option<Placement>, Refusal>
     ensures gives { Gives (length m.now) k result (placement_says k step c m.now (length work.old)) }
     ensures untouched { Untouched (placement_says k step c m.now (length work.old)) work.old work.new }
 {
-    let checked = placement_checks::check(m, c, k, step, work.len());
-    match checked {
-        Checked::Wrong(why) => Placement {
-            answer: Answer::Refused(why),
-            hues: [0u16; 16],
-            tightest: 0,
-        },
-        Checked::Fine => place(m, c, k, step, work),
-    }
+    placement_checks::check(m, c, k, step, work.len())?;
+    Ok(place(m, c, k, step, work))
 }

@@ -2,70 +2,62 @@
 // Its cases are in `placement_cases`.
 #![tactic(auto)]
 
-ghost use Rattle.std.specs.Prelude.{◌≡◌, ◌&&◌, leb};
+ghost use Rattle.std.specs.Prelude.{◌≡◌};
 ghost use Rattle.limits.specs.Answers.{value};
-ghost use Rattle.limits.specs.Refusals.{check_said};
-ghost use Rattle.placement_rules.specs.Placing.{checked, step_said, step_says};
+ghost use Rattle.limits.specs.Refusals.{said};
+ghost use Rattle.placement_rules.specs.Placing.{checked, step_says};
 
-use limits::{Checked, Refusal};
-pub use placement_rules::Stepping;
+use limits::Refusal;
 
 // How far apart k hues must be, in half degrees: ceil(600 / k) + 1, a line for each k, to be read beside the written separation rule.
 #[tactic(auto, unfolding(placement_rules::specs::Placing::step_says, placement_rules::specs::Placing::step_for, limits::specs::Taken::hue_count_taken))]
-pub fn step_for(k: usize) -> Stepping
-    ensures { step_said result ≡ step_says k }
+pub fn step_for(k: usize) -> Result<usize, Refusal>
+    ensures { said result ≡ step_says k }
 {
     match k {
-        1 => Stepping::Is(601),
-        2 => Stepping::Is(301),
-        3 => Stepping::Is(201),
-        4 => Stepping::Is(151),
-        5 => Stepping::Is(121),
-        6 => Stepping::Is(101),
-        7 => Stepping::Is(87),
-        8 => Stepping::Is(76),
-        9 => Stepping::Is(68),
-        10 => Stepping::Is(61),
-        11 => Stepping::Is(56),
-        12 => Stepping::Is(51),
-        13 => Stepping::Is(48),
-        14 => Stepping::Is(44),
-        15 => Stepping::Is(41),
-        16 => Stepping::Is(39),
-        0 | 17.. => Stepping::Refused(Refusal::HueCount),
+        1 => Ok(601),
+        2 => Ok(301),
+        3 => Ok(201),
+        4 => Ok(151),
+        5 => Ok(121),
+        6 => Ok(101),
+        7 => Ok(87),
+        8 => Ok(76),
+        9 => Ok(68),
+        10 => Ok(61),
+        11 => Ok(56),
+        12 => Ok(51),
+        13 => Ok(48),
+        14 => Ok(44),
+        15 => Ok(41),
+        16 => Ok(39),
+        0 | 17.. => Err(Refusal::HueCount),
     }
-}
-
-// Whether x is a number from 1 to most.
-fn between(x: usize, most: usize) -> bool
-    ensures { result ≡ (leb 1 x && leb x most) }
-{
-    1 <= x && x <= most
 }
 
 // The first refusal that applies to a placement, of 1, 3, 4, 5, 7 and 8.
 #[tactic(auto, unfolding(placement_rules::specs::Placing::checked, placement_rules::specs::Placing::work_needed))]
-pub fn check(m: &[f32], c: f32, k: usize, step: usize, room: usize) -> Checked
-    ensures { check_said result ≡ checked k step c m.now room (value tt) }
+pub fn check(m: &[f32], c: f32, k: usize, step: usize, room: usize) -> Result<(), Refusal>
+    ensures { said result ≡ checked k step c m.now room (value tt) }
 {
     let n = m.len();
     if !limits::takes_hue_count(k) {
-        return Checked::Wrong(Refusal::HueCount);
+        return Err(Refusal::HueCount);
     }
     if !limits::takes_chroma(c) {
-        return Checked::Wrong(Refusal::Chroma);
+        return Err(Refusal::Chroma);
     }
-    if !between(n, 720) {
-        return Checked::Wrong(Refusal::RingLength);
+    if !(1..=720).contains(&n) {
+        return Err(Refusal::RingLength);
     }
-    if !between(step, n) {
-        return Checked::Wrong(Refusal::Spacing);
+    if !(1..=n).contains(&step) {
+        return Err(Refusal::Spacing);
     }
     if !limits::takes_entries(m) {
-        return Checked::Wrong(Refusal::Entry);
+        return Err(Refusal::Entry);
     }
     if room < n {
-        return Checked::Wrong(Refusal::WorkBuffer);
+        return Err(Refusal::WorkBuffer);
     }
-    Checked::Fine
+    Ok(())
 }

@@ -1,15 +1,12 @@
 -- Document 01, "Hue ring", as a call: which arguments are refused by which number, what is handed out as sixteen indices, and the step for k. Definitions only.
-use Rattle.std.specs.Prelude.{◌≡◌, ℕ, suc, ◌+◌, ◌-◌, ◌/◌, ◌%◌, Bool, true, false, ◌&&◌, cond, List, [], ◌∷◌, leb, Float, length, get_or, set, take, replicate}
+use Rattle.std.specs.Prelude.{◌≡◌, ℕ, suc, ◌+◌, ◌-◌, ◌/◌, ◌%◌, Bool, true, false, ◌&&◌, cond, List, [], ◌∷◌, leb, Float, length, get_or, set, take, replicate, Option, Some, None, Result, Ok, Err}
 use Rattle.std.specs.Float.{nan}
 use Rattle.std.specs.Float.Ieee.{le}
 use Rattle.limits.specs.Answers.{Said, value, refused}
 use Rattle.limits.specs.Refusals.{number}
 use Rattle.limits.specs.Taken.{hue_count_taken, chroma_taken, entry_taken, every}
-use Rattle.placement_rules.specs.declared.Answer.{Answer}
-use Rattle.placement_rules.specs.declared.Answer.TheVariants.{Placed, Nowhere, Refused}
 use Rattle.placement_rules.specs.declared.Placement.{Placement}
-use Rattle.placement_rules.specs.declared.Stepping.{Stepping}
-use Rattle.placement_rules.specs.declared.Stepping.TheVariants as stepping
+use Rattle.limits.specs.declared.Refusal.{Refusal}
 use Rattle.placement_rules.specs.Ring.{Places, nowhere, placed, placement}
 use Rattle.placement_rules.specs.Gaps.{tightest}
 
@@ -66,28 +63,34 @@ tightest_beside n k (value nowhere) = 0
 tightest_beside n k (value (placed is)) = tightest n (take k is)
 tightest_beside n k (refused w) = 0
 
--- what an answer hands back, with the hues that stand beside it
-abbrev pub answers : Answer → List ℕ → Said Places
-answers Placed hues = value (placed hues)
-answers Nowhere hues = value nowhere
-answers (Refused w) hues = refused (number w)
+-- what is handed out: the hues placed, with their smallest gap, or none of it
+abbrev pub places_of : Option Placement → Places
+places_of None = nowhere
+places_of (Some p) = placed p.hues
 
--- what a call hands back says this: an answer, its sixteen hues, and the smallest gap of k of them on a ring of n
-pub record Gives (n k : ℕ) (r : Placement) (said : Said Places) : Type 0 where
-  pub says : answers r.answer r.hues ≡ said
-  pub beside : r.hues ≡ hues_beside said
-  pub tightest_is : r.tightest ≡ tightest_beside n k said
+abbrev pub gap_of : Option Placement → ℕ
+gap_of None = 0
+gap_of (Some p) = p.tightest
 
--- whether an answer is a placement
-abbrev pub is_placed : Answer → Bool
-is_placed Placed = true
-is_placed Nowhere = false
-is_placed (Refused w) = false
+-- what is handed out is these places: the hues, and the smallest gap of k of them on a ring of n
+pub record Hands (n k : ℕ) (found : Option Placement) (places : Places) : Type 0 where
+  pub places_are : places_of found ≡ places
+  pub tightest_is : gap_of found ≡ tightest_beside n k (value places)
 
--- what the step for k hands back, and what it says: k outside 1 to 16 is refused by 1
-abbrev pub step_said : Stepping → Said ℕ
-step_said (stepping.Is s) = value s
-step_said (stepping.Refused w) = refused (number w)
+-- what a call hands back
+abbrev pub placement_said : Result (Option Placement) Refusal → Said Places
+placement_said (Ok found) = value (places_of found)
+placement_said (Err why) = refused (number why)
 
+abbrev pub gap_handed : Result (Option Placement) Refusal → ℕ
+gap_handed (Ok found) = gap_of found
+gap_handed (Err why) = 0
+
+-- what a call hands back says this: sixteen hues and the smallest gap of k of them on a ring of n, or none, or a refusal
+pub record Gives (n k : ℕ) (r : Result (Option Placement) Refusal) (said : Said Places) : Type 0 where
+  pub says : placement_said r ≡ said
+  pub tightest_is : gap_handed r ≡ tightest_beside n k said
+
+-- what the step for k says: k outside 1 to 16 is refused by 1
 unfoldable pub step_says : ℕ → Said ℕ
 step_says k = cond (hue_count_taken k) (value (step_for k)) (refused 1)

@@ -1,7 +1,7 @@
 -- One turn of the digit-by-digit root, over any degree n: what was taken of w so far is root ^ n and the rest, and the root is the greatest. Assumes nothing.
-use mathlib.Core.Path.{◌≡◌, refl, sym, ap, ◌∙◌}
+use mathlib.Core.Path.{◌≡◌, sym, ap, ◌∙◌}
 use Prim.Native.Nat.{ℕ, zero, suc, ◌+◌, ◌-◌, ◌*◌, ◌/◌, ◌%◌, ◌^◌, ◌≤◌, ◌<◌}
-use native.Mathlib.Nat.{le_trans, mul_assoc, mul_comm, mul_left_comm, suc-mul, add_assoc, add_comm, add_left_comm, add-mul, mul-add, mul-le-mul_left, mul-suc, div-lt_iff_lt-mul, div-add-mod', mod-lt, mul-lt-mul_of_pos_right, mul-le-mul_right, pow-suc, pow-zero, mul-zero, mul-one, not-suc-le-zero, zero-mul}
+use native.Mathlib.Nat.{mul_assoc, mul_comm, mul_left_comm, suc-mul, add_assoc, add_comm, add_left_comm, add-mul, mul-add, mul-le-mul_left, mul-suc, div-lt_iff_lt-mul, div-add-mod', mod-lt, mul-lt-mul_of_pos_right, mul-le-mul_right, pow-suc, pow-zero, mul-zero, mul-one, not-suc-le-zero, zero-mul}
 use native.Mathlib.Omega.{arith}
 use lib.Pow.{pow-add, pow_pos}
 use Rattle.roots.proofs.Powers.{mul_pow}

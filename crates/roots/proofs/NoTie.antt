@@ -2,7 +2,7 @@
 use mathlib.Core.Path.{◌≡◌, refl, sym, ap, ◌∙◌}
 use mathlib.Core.Logic.{◌⊎◌, inl, inr}
 use Prim.Native.Nat.{ℕ, zero, suc, ◌+◌, ◌-◌, ◌*◌, ◌/◌, ◌%◌, ◌^◌, ◌≤◌, ◌<◌}
-use native.Mathlib.Nat.{le_trans, lt_irrefl, lt_of_le_of_lt, lt_of_lt_of_le, mul_assoc, mul_comm, mul-one, one-mul, mul-le-mul_left, mul-le-mul_right, pow-suc, pow-zero, pow-succ', pow-le-pow_left, eq_of_mul-eq-mul_right, add-mul, not-suc-le-zero, mul_left_comm}
+use native.Mathlib.Nat.{le_trans, mul_assoc, mul_comm, mul-one, one-mul, mul-le-mul_left, mul-le-mul_right, pow-suc, pow-zero, pow-succ', pow-le-pow_left, eq_of_mul-eq-mul_right, add-mul, not-suc-le-zero, mul_left_comm}
 use native.Mathlib.Omega.{arith}
 use lib.Pow.{pow-add, pow_pos}
 use Rattle.halving.specs.Patterns.{worth}

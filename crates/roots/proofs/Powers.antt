@@ -1,8 +1,8 @@
 -- Powers of whole numbers: of a product, and how much a square and a cube grow from an even number to the next. Assumes nothing.
-use mathlib.Core.Path.{◌≡◌, refl, sym, ap, ◌∙◌}
+use mathlib.Core.Path.{◌≡◌, sym, ap, ◌∙◌}
 use mathlib.Core.Logic.{◌⊎◌, inl, inr}
 use Prim.Native.Nat.{ℕ, zero, suc, ◌+◌, ◌*◌, ◌^◌, ◌≤◌, ◌<◌}
-use native.Mathlib.Nat.{pow-zero, pow-suc, mul-mul-mul_comm, mul_assoc, mul_comm, mul-one, one-mul, add-mul, mul-add, mul-zero, mul-suc, mul-le-mul, le_of_lt}
+use native.Mathlib.Nat.{pow-zero, pow-suc, mul-mul-mul_comm, mul_assoc, one-mul, add-mul, mul-add, mul-zero, mul-suc, mul-le-mul, le_of_lt}
 use native.Mathlib.Omega.{arith}
 use lib.Pow.{pow-add}
 

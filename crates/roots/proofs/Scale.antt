@@ -1,11 +1,11 @@
 -- An operand brought to 24 digits: by the leading zeros of its fraction bits where it is subnormal, by its exponent's field otherwise. Assumes nothing.
-use mathlib.Core.Path.{◌≡◌, refl, sym, ap, ◌∙◌}
+use mathlib.Core.Path.{◌≡◌, sym, ap, ◌∙◌}
 use mathlib.Core.Logic.{inl, inr}
-use Prim.Native.Nat.{ℕ, zero, suc, ◌+◌, ◌-◌, ◌*◌, ◌/◌, ◌%◌, ◌^◌, ◌≤◌, ◌<◌}
-use native.Mathlib.Nat.{le_trans, lt_of_lt_of_le, mul_assoc, mul_comm, mul-le-mul_right, mul-lt-mul_of_pos_right, mod-eq_of_lt}
+use Prim.Native.Nat.{ℕ, suc, ◌+◌, ◌-◌, ◌*◌, ◌/◌, ◌%◌, ◌^◌, ◌≤◌, ◌<◌}
+use native.Mathlib.Nat.{lt_of_lt_of_le, mul_assoc, mul-le-mul_right, mul-lt-mul_of_pos_right, mod-eq_of_lt}
 use native.Mathlib.Omega.{arith}
 use lib.Count.{count_leading_zeros, leading_top}
-use lib.Dec.{lit≤, lit<}
+use lib.Dec.{lit≤}
 use lib.Pow.{pow-add, pow_pos, pow_mono}
 use Rattle.halving.specs.Patterns.{worth}
 use Rattle.limits.proofs.Numbers.{below_or_not}

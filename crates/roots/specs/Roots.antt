@@ -3,20 +3,12 @@
 use Rattle.std.specs.Prelude.{ℕ, cond, Float}
 use Rattle.std.specs.Float.Ieee.Positive.{num, den}
 use Rattle.limits.specs.Answers.{Said, value, refused}
-use Rattle.limits.specs.Refusals.{number}
 use Rattle.limits.specs.Taken.{root_operand_taken}
 use Rattle.halving.specs.Patterns.{nearest_root}
-use Rattle.roots.specs.declared.Root.{Root}
-use Rattle.roots.specs.declared.Root.TheVariants.{Is, Refused}
 
 -- the f32 nearest the n-th root of an x that is finite with its sign bit clear: x is the fraction num x / den x
 unfoldable pub root_of : ℕ → Float → Float
 root_of n x = nearest_root n (num x) (den x)
-
--- what an answer hands back
-abbrev pub said : Root → Said Float
-said (Is r) = value r
-said (Refused w) = refused (number w)
 
 -- what a call with the one number x hands back
 unfoldable pub root_says : ℕ → Float → Said Float

@@ -5,19 +5,11 @@
 #![tactic(auto)]
 
 ghost use Rattle.std.specs.Prelude.{◌≡◌, ◌⊎◌, ◌+◌, ◌*◌, ◌^◌, ◌≤◌, ◌<◌};
+ghost use Rattle.limits.specs.Refusals.{said};
 ghost use Rattle.halving.specs.Patterns.{worth, least, half_way};
-ghost use Rattle.roots.specs.Roots.{said, root_says};
+ghost use Rattle.roots.specs.Roots.{root_says};
 
 use limits::Refusal;
-
-// The root, or why none is taken.
-#[derive(Clone, Copy)]
-pub enum Root {
-    // the f32 nearest the exact root
-    Is(f32),
-    // refused by 16: the operand is not finite or has its sign bit set
-    Refused(Refusal),
-}
 
 // The operand as significand × 2 ^ exponent, in units of 2 ^ -172.
 #[derive(Clone, Copy)]
@@ -58,14 +50,6 @@ fn gain(n: u32, a: u64) -> u64
     }
 }
 
-// 2 ^ n.
-fn power_of_two(n: u32) -> u64
-    requires { (n ≡ 2) ⊎ (n ≡ 3) }
-    ensures { result ≡ 2 ^ n }
-{
-    if n == 2 { 4 } else { 8 }
-}
-
 // 25 binary digits of a root: the greatest h whose n-th power is at most w × 2 ^ (24 n - 24).
 fn root_digits(n: u32, w: u64) -> u64
     requires { ((n ≡ 2) ⊎ (n ≡ 3)) × (w < 2 ^ (24 + n)) }
@@ -74,12 +58,10 @@ fn root_digits(n: u32, w: u64) -> u64
     let mut root: u64 = 0;
     let mut rest: u64 = 0;
     let mut tail = w;
-    let base = power_of_two(n);
-    let mut i: u32 = 0;
-    while i < 25 {
-        let more = rest * base + tail / 0x100_0000;
+    for _ in 0..25u32 {
+        let more = (rest << n) + tail / 0x100_0000;
         let step = gain(n, root);
-        tail = tail % 0x100_0000 * base;
+        tail = (tail % 0x100_0000) << n;
         if step <= more {
             rest = more - step;
             root = 2 * root + 1;
@@ -87,7 +69,6 @@ fn root_digits(n: u32, w: u64) -> u64
             rest = more;
             root = 2 * root;
         }
-        i += 1;
     }
     root
 }
@@ -111,30 +92,30 @@ fn root_bits(n: u32, bits: u32) -> u32
     (shift / n - zeros(n)) * 0x80_0000 + ((h + 1) / 2) as u32
 }
 
-// The n-th root of x.
-fn root_of(n: u32, x: f32) -> Root
+// The n-th root of x, refused by 16 where x is not finite or has its sign bit set.
+fn root_of(n: u32, x: f32) -> Result<f32, Refusal>
     requires { (n ≡ 2) ⊎ (n ≡ 3) }
     ensures { said result ≡ root_says n x }
 {
-    if limits::takes_root_operand(x) {
-        let bits = f32::to_bits(x);
-        if bits == 0 {
-            return Root::Is(0.0);
-        }
-        return Root::Is(f32::from_bits(root_bits(n, bits)));
+    if !limits::takes_root_operand(x) {
+        return Err(Refusal::Operand);
     }
-    Root::Refused(Refusal::Operand)
+    let bits = x.to_bits();
+    if bits == 0 {
+        return Ok(0.0);
+    }
+    Ok(f32::from_bits(root_bits(n, bits)))
 }
 
 // The f32 nearest the square root of x.
-pub fn sqrt(x: f32) -> Root
+pub fn sqrt(x: f32) -> Result<f32, Refusal>
     ensures { said result ≡ root_says 2 x }
 {
     root_of(2, x)
 }
 
 // The f32 nearest the cube root of x.
-pub fn cbrt(x: f32) -> Root
+pub fn cbrt(x: f32) -> Result<f32, Refusal>
     ensures { said result ≡ root_says 3 x }
 {
     root_of(3, x)

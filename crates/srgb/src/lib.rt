@@ -4,7 +4,7 @@
 #![tactic(auto)]
 
 ghost use Rattle.std.specs.Prelude.{◌≡◌};
-ghost use Rattle.srgb.specs.Channels.{clamp_to, gamut_channel, clamped_of, in_gamut, srgb8_to_linear, linear_to_srgb8};
+ghost use Rattle.srgb.specs.Channels.{gamut_channel, clamped_of, in_gamut, srgb8_to_linear, linear_to_srgb8};
 ghost use Rattle.srgb.specs.Parts.{from_hex, to_hex};
 
 // Non-linear sRGB, 0 to 255 in each channel.
@@ -35,42 +35,23 @@ impl Srgb8 {
     pub fn from_hex(hex: u32) -> Srgb8
         ensures { result ≡ from_hex hex }
     {
-        Srgb8 {
-            r: (hex / 0x1_0000 % 0x100) as u8,
-            g: (hex / 0x100 % 0x100) as u8,
-            b: (hex % 0x100) as u8,
-        }
+        let [_, r, g, b] = hex.to_be_bytes();
+        Srgb8 { r, g, b }
     }
 
     // As 0xRRGGBB.
     pub fn to_hex(self) -> u32
         ensures { result ≡ to_hex self }
     {
-        self.r as u32 * 0x1_0000 + self.g as u32 * 0x100 + self.b as u32
+        u32::from_be_bytes([0, self.r, self.g, self.b])
     }
-}
-
-// v brought to 0 to 1. Minus zero and NaN stay.
-fn clamp(v: f32) -> f32
-    ensures { result ≡ clamp_to v }
-{
-    if v < 0.0 {
-        return 0.0;
-    }
-    if 1.0 < v {
-        return 1.0;
-    }
-    v
 }
 
 // Whether one channel lies from 0 to 1, with 1e-4 to spare.
 fn channel_in_gamut(v: f32) -> bool
     ensures { result ≡ gamut_channel v }
 {
-    if -1e-4 <= v {
-        return v <= 1.0 + 1e-4;
-    }
-    false
+    -1e-4 <= v && v <= 1.0 + 1e-4
 }
 
 impl Linear {
@@ -81,27 +62,23 @@ impl Linear {
         Linear { r, g, b }
     }
 
-    // Each channel brought to 0 to 1.
+    // Each channel brought to 0 to 1. Minus zero and NaN stay.
     pub fn clamped(self) -> Linear
         ensures { result ≡ clamped_of self }
     {
         Linear {
-            r: clamp(self.r),
-            g: clamp(self.g),
-            b: clamp(self.b),
+            r: self.r.clamp(0.0, 1.0),
+            g: self.g.clamp(0.0, 1.0),
+            b: self.b.clamp(0.0, 1.0),
         }
     }
 
     // Whether every channel lies in 0 to 1, within 1e-4.
+    #[tactic(auto, unfolding(crate::specs::Channels::in_gamut))]
     pub fn in_gamut(self) -> bool
         ensures { result ≡ in_gamut self }
     {
-        if channel_in_gamut(self.r) {
-            if channel_in_gamut(self.g) {
-                return channel_in_gamut(self.b);
-            }
-        }
-        false
+        channel_in_gamut(self.r) && channel_in_gamut(self.g) && channel_in_gamut(self.b)
     }
 }
 

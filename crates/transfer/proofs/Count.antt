@@ -1,7 +1,7 @@
 -- How many constants are ≤ v: m, where the first m are and no other is; and the constants' order says where those are. Assumes nothing.
-use mathlib.Core.Path.{◌≡◌, refl, sym, ◌∙◌}
+use mathlib.Core.Path.{◌≡◌}
 use mathlib.Core.Logic.{inl, inr}
-use mathlib.Core.Bool.{Bool, true, false}
+use mathlib.Core.Bool.{true, false}
 use Prim.Native.Nat.{ℕ, zero, suc, ◌≤◌, ◌<◌}
 use native.Mathlib.Nat.{le_refl, not-le_of_lt}
 use native.Mathlib.Omega.{arith}
@@ -29,14 +29,6 @@ module _ (v : Float) where
       is_true (le (threshold_of (suc j)) v)
       (onward (threshold_of (suc j)) (threshold_of (suc k)) v (threshold_positive j (omega arith)) (threshold_positive k u)
       (pattern_le (threshold_pattern (suc j)) (threshold_pattern (suc k)) (threshold_le (suc j) (suc k) (omega arith) u) (omega arith)) (holds_true t))
-
-  -- and where one is not, no higher one is
-  pub higher : (j k : ℕ) → j ≤ k → k < 255 → le (threshold_of (suc j)) v ≡ false → le (threshold_of (suc k)) v ≡ false
-  higher j k h u f = go (le (threshold_of (suc k)) v) refl
-    where
-      go : (t : Bool) → le (threshold_of (suc k)) v ≡ t → t ≡ false
-      go true e = sym (lower j k h u e) ∙ f
-      go false e = refl
 
   -- the count is m, where the first m constants are ≤ v and the others are not
   pub count_is : (m n : ℕ) → m ≤ n → ((k : ℕ) → k < m → le (threshold_of (suc k)) v ≡ true) → ((k : ℕ) → m ≤ k → k < n → le (threshold_of (suc k)) v ≡ false) → count_to n v ≡ m

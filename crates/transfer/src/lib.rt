@@ -2,8 +2,8 @@
 // Its cases are in `color_cases`.
 #![tactic(auto)]
 
-ghost use Rattle.std.specs.Prelude.{◌≡◌, suc};
-ghost use Rattle.transfer.specs.Transfer.{decode_of, threshold_of, encode_of, Lists};
+ghost use Rattle.std.specs.Prelude.{◌≡◌};
+ghost use Rattle.transfer.specs.Transfer.{decode_of, encode_of};
 
 // Constant n of decoding, for each code n.
 const DECODE: [f32; 256] = [
@@ -524,42 +524,16 @@ const ENCODE: [f32; 255] = [
     0.99554527,
 ];
 
-// The 256 constants of decoding.
-fn decode_constants() -> [f32; 256]
-    ensures { Lists 256 decode_of result }
-{
-    DECODE
-}
-
-// The 255 constants of encoding.
-fn encode_constants() -> [f32; 255]
-    ensures { Lists 255 (λ k. threshold_of (suc k)) result }
-{
-    ENCODE
-}
-
 // The linear value of a code.
 pub fn decode(code: u8) -> f32
     ensures { result ≡ decode_of code }
 {
-    let constants = decode_constants();
-    constants[code as usize]
+    DECODE[code as usize]
 }
 
-// The code of a linear value, whatever f32 it is: how many constants are at most v, by eight comparisons.
+// The code of a linear value, whatever f32 it is: how many of the constants, which ascend, are at most v.
 pub fn encode(v: f32) -> u8
     ensures { result ≡ encode_of v }
 {
-    let constants = encode_constants();
-    let mut lo: usize = 0;
-    let mut hi: usize = 255;
-    while lo < hi {
-        let mid = (lo + hi) / 2;
-        if constants[mid] <= v {
-            lo = mid + 1;
-        } else {
-            hi = mid;
-        }
-    }
-    lo as u8
+    ENCODE.partition_point(|constant| *constant <= v) as u8
 }

@@ -4,4 +4,4 @@ use Rattle.color.proofs.Inside.{inside}
 use Rattle.color.proofs.cbrt_inside.Goals as goal
 
 pub returns : goal.returns
-returns c = c.or_operand.ensures ∙ inside 3 _ c.cbrt.result c.cbrt.ensures
+returns c = c.unwrap_or.ensures ∙ inside 3 _ c.cbrt.result c.cbrt.ensures

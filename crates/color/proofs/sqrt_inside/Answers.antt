@@ -4,4 +4,4 @@ use Rattle.color.proofs.Inside.{inside}
 use Rattle.color.proofs.sqrt_inside.Goals as goal
 
 pub returns : goal.returns
-returns c = c.or_operand.ensures ∙ inside 2 _ c.sqrt.result c.sqrt.ensures
+returns c = c.unwrap_or.ensures ∙ inside 2 _ c.sqrt.result c.sqrt.ensures

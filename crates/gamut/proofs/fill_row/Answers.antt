@@ -5,5 +5,5 @@ use Rattle.gamut.proofs.fill_row.Goals as goal
 
 pub fill-requires : goal.fill-requires
 fill-requires c =
-    let d = directions_long _ _ (sym c.takes_directions.ensures ∙ c.if-takes_directions.true) in
-    (d.0, (d.1, c.if-row-eq-HUES.true))
+    let d = directions_long _ _ (sym c.takes_directions.ensures ∙ c.if-not-takes_directions.false) in
+    (d.0, (d.1, c.if-row-ne-HUES.false))

@@ -30,9 +30,9 @@ pub returns-then-lch_in_gamut : goal.returns-then-lch_in_gamut
 unfolding max_chroma of_bits of_int
 returns-then-lch_in_gamut c = rw (sym c.lch_in_gamut.ensures ∙ c.if-lch_in_gamut.true)
 
-pub loop-i-init : goal.loop-i-init
+pub loop-init : goal.loop-init
 unfolding of_bits of_int
-loop-i-init c = (omega arith, ((lowest, highest), refl))
+loop-init c = ((lowest, highest), refl)
 
 -- the loop's end is the function's
 ended : (l cos sin lo : Float) → lch_in_gamut l cos sin (f32_of 200) ≡ false → lo ≡ halve (lch_in_gamut l cos sin) 40 (f32_of 0) (f32_of 200) → lo ≡ max_chroma l cos sin
@@ -63,53 +63,45 @@ module _ (ok : Float → Bool) (i : ℕ) (lo hi end : Float) (low : Met lo) (hig
 
 pub float_to_bits-mid : goal.float_to_bits-mid
 float_to_bits-mid c =
-    let v = c.loop-i.invariant in
-    rw (no_nan (mid_met _ _ _ _ _ v.1.0.0 v.1.0.1 v.1.1 _ c.midpoint-mid.ensures)) tt
+    let v = c.loop.invariant in
+    rw (no_nan (mid_met _ _ _ _ _ v.0.0 v.0.1 v.1 _ c.midpoint-mid.ensures)) tt
 
 pub float_to_bits-lo : goal.float_to_bits-lo
-float_to_bits-lo c = rw (no_nan c.loop-i.invariant.1.0.0) tt
+float_to_bits-lo c = rw (no_nan c.loop.invariant.0.0) tt
 
 pub returns-then-mid-lo : goal.returns-then-mid-lo
 unfolding of_bits of_int
 returns-then-mid-lo c =
-    let v = c.loop-i.invariant in
+    let v = c.loop.invariant in
     ended _ _ _ _ (sym c.lch_in_gamut.ensures ∙ c.if-lch_in_gamut.false)
-    (at_low _ _ _ _ _ v.1.0.0 v.1.0.1 v.1.1 _ c.midpoint-mid.ensures (sym c.lch_in_gamut-in-loop-i.ensures ∙ c.if-lch_in_gamut-2.true) c.if-mid-lo.true)
+    (at_low _ _ _ _ _ v.0.0 v.0.1 v.1 _ c.midpoint-mid.ensures (sym c.lch_in_gamut-in-loop.ensures ∙ c.if-lch_in_gamut-2.true) c.if-mid-lo.true)
 
 pub float_to_bits-mid-else-lch_in_gamut-2 : goal.float_to_bits-mid-else-lch_in_gamut-2
 float_to_bits-mid-else-lch_in_gamut-2 c =
-    let v = c.loop-i.invariant in
-    rw (no_nan (mid_met _ _ _ _ _ v.1.0.0 v.1.0.1 v.1.1 _ c.midpoint-mid.ensures)) tt
+    let v = c.loop.invariant in
+    rw (no_nan (mid_met _ _ _ _ _ v.0.0 v.0.1 v.1 _ c.midpoint-mid.ensures)) tt
 
 pub float_to_bits-hi : goal.float_to_bits-hi
-float_to_bits-hi c = rw (no_nan c.loop-i.invariant.1.0.1) tt
+float_to_bits-hi c = rw (no_nan c.loop.invariant.0.1) tt
 
 pub returns-then-mid-hi : goal.returns-then-mid-hi
 unfolding of_bits of_int
 returns-then-mid-hi c =
-    let v = c.loop-i.invariant in
+    let v = c.loop.invariant in
     ended _ _ _ _ (sym c.lch_in_gamut.ensures ∙ c.if-lch_in_gamut.false)
-    (at_high _ _ _ _ _ v.1.0.0 v.1.0.1 v.1.1 _ c.midpoint-mid.ensures (sym c.lch_in_gamut-in-loop-i.ensures ∙ c.if-lch_in_gamut-2.false) c.if-mid-hi.true)
+    (at_high _ _ _ _ _ v.0.0 v.0.1 v.1 _ c.midpoint-mid.ensures (sym c.lch_in_gamut-in-loop.ensures ∙ c.if-lch_in_gamut-2.false) c.if-mid-hi.true)
 
-pub overflow_add-i : goal.overflow_add-i
-overflow_add-i c = let h = c.loop-i-test.true in omega arith
-
-pub loop-i-smaller : goal.loop-i-smaller
-loop-i-smaller c = let h = c.loop-i-test.true in omega arith
-
-pub loop-i-preserved : goal.loop-i-preserved
-loop-i-preserved c =
-    let v = c.loop-i.invariant in
-    let h = c.loop-i-test.true in (
-      omega arith,
-      elim c.if-lch_in_gamut-2.branch [
-        | then-lch_in_gamut-2+else-mid-lo w ↦ rw (w.lo-is, w.hi-is) (up _ _ _ _ _ v.1.0.0 v.1.0.1 v.1.1 _ c.midpoint-mid.ensures h (sym c.lch_in_gamut-in-loop-i.ensures ∙ w.if-lch_in_gamut-2.true))
-        | else-lch_in_gamut-2+else-mid-hi w ↦ rw (w.lo-is, w.hi-is) (down _ _ _ _ _ v.1.0.0 v.1.0.1 v.1.1 _ c.midpoint-mid.ensures h (sym c.lch_in_gamut-in-loop-i.ensures ∙ w.if-lch_in_gamut-2.false))
-      ],
-    )
+pub loop-preserved : goal.loop-preserved
+loop-preserved c =
+    let v = c.loop.invariant in
+    let h : c.loop.counter < 40 = let k = c.loop-test.true in omega arith in
+    elim c.if-lch_in_gamut-2.branch [
+      | then-lch_in_gamut-2+else-mid-lo w ↦ rw (w.lo-is, w.hi-is) (up _ _ _ _ _ v.0.0 v.0.1 v.1 _ c.midpoint-mid.ensures h (sym c.lch_in_gamut-in-loop.ensures ∙ w.if-lch_in_gamut-2.true))
+      | else-lch_in_gamut-2+else-mid-hi w ↦ rw (w.lo-is, w.hi-is) (down _ _ _ _ _ v.0.0 v.0.1 v.1 _ c.midpoint-mid.ensures h (sym c.lch_in_gamut-in-loop.ensures ∙ w.if-lch_in_gamut-2.false))
+    ]
 
 pub returns : goal.returns
 unfolding of_bits of_int
 returns c =
-    let last : 40 ≤ c.loop-i.i = let k = c.loop-i-test.false in omega arith in
-    ended _ _ _ _ (sym c.lch_in_gamut.ensures ∙ c.if-lch_in_gamut.false) (turned (lch_in_gamut c.args.l c.args.cos c.args.sin) 40 c.loop-i.i c.loop-i.lo c.loop-i.hi _ c.loop-i.invariant.1.1 last)
+    let last : 40 ≤ c.loop.counter = let k = c.loop-test.false in omega arith in
+    ended _ _ _ _ (sym c.lch_in_gamut.ensures ∙ c.if-lch_in_gamut.false) (turned (lch_in_gamut c.args.l c.args.cos c.args.sin) 40 c.loop.counter c.loop.lo c.loop.hi _ c.loop.invariant.1 last)

@@ -11,21 +11,7 @@ use Rattle.hue.proofs.Turns.{from_the_first, here, onward, nowhere}
 use Rattle.hue.proofs.hue_of.Goals as goal
 
 pub loop-j-init : goal.loop-j-init
-loop-j-init c = (omega arith, from_the_first _ _ _ _)
-
-pub side-x-requires : goal.side-x-requires
-side-x-requires c =
-    let p = c.requires in
-    let h = c.loop-j-test.true in
-    (omega arith, omega arith)
-
-pub overflow_add-j : goal.overflow_add-j
-overflow_add-j c = let h = c.loop-j-test.true in omega arith
-
-pub side-next-requires : goal.side-next-requires
-side-next-requires c =
-    let p = c.requires in
-    (omega arith, omega arith)
+loop-j-init c = from_the_first _ _ _ _
 
 -- what the code compares is what `crosses` compares
 told : (cs ss : List Float) (a b : Float) (j : ℕ) (x y : Float) (r t : Bool) → x ≡ side_at cs ss a b j → y ≡ side_at cs ss a b ((j + 1) % 720) → r ≡ changes x y → r ≡ t → crosses cs ss a b j ≡ t
@@ -46,14 +32,8 @@ returns-then-changes_side c =
     let l = t.before in
     let h : l.loop-j.j < 720 = let k = t.loop-j-test.true in omega arith in
     as_written _ _ _ _ l.loop-j.j _ _ s1.side-x.ensures s2.side-next.ensures
-    ∙ here _ _ _ _ l.loop-j.j l.loop-j.invariant.1 h
+    ∙ here _ _ _ _ l.loop-j.j l.loop-j.invariant h
     (told _ _ _ _ l.loop-j.j _ _ _ true s1.side-x.ensures s2.side-next.ensures d.changes_side.ensures c.if-changes_side.true)
-
-pub overflow_add-j-in-loop-j : goal.overflow_add-j-in-loop-j
-overflow_add-j-in-loop-j c = let h = c.loop-j-test.true in omega arith
-
-pub loop-j-smaller : goal.loop-j-smaller
-loop-j-smaller c = let h = c.loop-j-test.true in omega arith
 
 pub loop-j-preserved : goal.loop-j-preserved
 loop-j-preserved c =
@@ -62,12 +42,10 @@ loop-j-preserved c =
     let s1 = s2.before in
     let t = s1.before in
     let l = t.before in
-    let h : l.loop-j.j < 720 = let k = t.loop-j-test.true in omega arith in (
-      omega arith,
-      onward _ _ _ _ l.loop-j.j l.loop-j.invariant.1 h
-          (told _ _ _ _ l.loop-j.j _ _ _ false s1.side-x.ensures s2.side-next.ensures d.changes_side.ensures c.if-changes_side.false),
-    )
+    let h : l.loop-j.j < 720 = let k = t.loop-j-test.true in omega arith in
+    onward _ _ _ _ l.loop-j.j l.loop-j.invariant h
+    (told _ _ _ _ l.loop-j.j _ _ _ false s1.side-x.ensures s2.side-next.ensures d.changes_side.ensures c.if-changes_side.false)
 
 pub returns : goal.returns
 unfolding of_bits of_int
-returns c = nowhere _ _ _ _ c.loop-j.j c.loop-j.invariant.1 (let k = c.loop-j-test.false in omega arith)
+returns c = nowhere _ _ _ _ c.loop-j.j c.loop-j.invariant (let k = c.loop-j-test.false in omega arith)

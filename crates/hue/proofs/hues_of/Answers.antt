@@ -22,10 +22,7 @@ loop-i-init c =
     let s = c.before.before in
     let colors = s.args.colors in
     let long : length colors ≡ 32 = omega arith in
-    (omega arith, ap (λ (n : ℕ). replicate n (f32_of 0)) (sym long) ∙ hues_none s.args.cos.now s.args.sin.now colors)
-
-pub hue_of-requires : goal.hue_of-requires
-hue_of-requires c = c.requires.1
+    ap (λ (n : ℕ). replicate n (f32_of 0)) (sym long) ∙ hues_none s.args.cos.now s.args.sin.now colors
 
 pub loop-i-preserved : goal.loop-i-preserved
 unfolding color_hue
@@ -36,17 +33,8 @@ loop-i-preserved c =
     let ss = s.args.sin.now in
     let colors = s.args.colors in
     let i = l.loop-i.i in
-    let v : c.hue_of.result ≡ color_hue cs ss (get_or colors i black) = c.hue_of.ensures ∙ ap (λ (x : Lab). hue_of cs ss x.a x.b) c.srgb8_to_lab-lab.ensures in (
-      omega arith,
-      ap (λ (d : List Float). set d i c.hue_of.result) l.loop-i.invariant.1
-          ∙ ap (set (color_hues cs ss i colors) i) v
-          ∙ hues_next cs ss i colors black (omega arith)
-          ∙ ap (λ (n : ℕ). color_hues cs ss n colors) (sym (add-one i)),
-    )
-
-pub returns : goal.returns
-returns c =
-    let l = c.before in
-    let s = l.before.before.before in
-    let e : l.loop-i.i ≡ s.args.n = omega arith in
-    l.loop-i.invariant.1 ∙ ap (λ (n : ℕ). color_hues s.args.cos.now s.args.sin.now n s.args.colors) e
+    let v : c.hue_of.result ≡ color_hue cs ss (get_or colors i black) = c.hue_of.ensures ∙ ap (λ (x : Lab). hue_of cs ss x.a x.b) c.srgb8_to_lab-lab.ensures in
+    ap (λ (d : List Float). set d i c.hue_of.result) l.loop-i.invariant
+    ∙ ap (set (color_hues cs ss i colors) i) v
+    ∙ hues_next cs ss i colors black (omega arith)
+    ∙ ap (λ (n : ℕ). color_hues cs ss n colors) (sym (add-one i))

@@ -1,11 +1,7 @@
 -- `hues_of` meets its contract. The invariant: the degrees are the hues of the first i colours. Assumes nothing.
 use mathlib.Core.Path.{◌≡◌}
-use Prim.Native.Nat.{◌-◌, ◌≤◌}
 use Rattle.hue.specs.Hue.{color_hues}
 use Rattle.hue.proofs.hues_of.Given as goal
 
 abbrev pub invariant-loop-i : goal.invariant-loop-i
-invariant-loop-i l = (l.i ≤ l.n) × (l.degrees ≡ color_hues l.cos l.sin l.i l.colors)
-
-abbrev pub decreases-loop-i : goal.decreases-loop-i
-decreases-loop-i l = l.n - l.i
+invariant-loop-i l = l.degrees ≡ color_hues l.cos l.sin l.i l.colors

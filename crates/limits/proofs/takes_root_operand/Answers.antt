@@ -1,7 +1,7 @@
 -- `limits::takes_root_operand` meets its contract: with the sign bit clear, to be finite is to be below the infinity. Assumes nothing.
 use mathlib.Core.Path.{◌≡◌, refl, sym, ◌∙◌}
 use mathlib.Core.Bool.{true, false}
-use lib.Ieee.{Float, nan, inf, fin, is_nan, lt, of_bits, nan_bits}
+use lib.Ieee.{Float, nan, inf, fin, is_nan, lt, of_bits}
 use Rattle.limits.specs.Taken.{sign_bit, sign_clear, root_operand_taken}
 use Rattle.limits.proofs.takes_root_operand.Goals as goal
 
@@ -20,13 +20,9 @@ not_clear (inf s) e = refl
 not_clear (fin true m k) e = refl
 not_clear (fin false m k) e = cc
 
-pub float_from_bits-result : goal.float_from_bits-result
-unfolding nan_bits
-float_from_bits-result c = tt
-
 pub returns-then-sign_clear : goal.returns-then-sign_clear
 unfolding of_bits
 returns-then-sign_clear c = clear _ (sym c.sign_clear.ensures ∙ c.if-sign_clear.true)
 
-pub returns : goal.returns
-returns c = not_clear _ (sym c.sign_clear.ensures ∙ c.if-sign_clear.false)
+pub returns-else-sign_clear : goal.returns-else-sign_clear
+returns-else-sign_clear c = c.if-sign_clear.false ∙ not_clear _ (sym c.sign_clear.ensures ∙ c.if-sign_clear.false)

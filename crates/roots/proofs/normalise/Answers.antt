@@ -11,15 +11,6 @@ moved c = shift (c.args.bits % 8388608) (omega arith) (omega arith)
 pub overflow_sub-zeros : goal.overflow_sub-zeros
 overflow_sub-zeros c = (moved c).enough
 
-pub overflow_cast-result-then-field-eq0 : goal.overflow_cast-result-then-field-eq0
-overflow_cast-result-then-field-eq0 c = let h = (moved c).few in omega arith
-
-pub overflow_shl-result : goal.overflow_shl-result
-overflow_shl-result c = let h = (moved c).few in omega arith
-
-pub overflow_sub-result : goal.overflow_sub-result
-overflow_sub-result c = let h = (moved c).few in omega arith
-
 pub returns-then-field-eq0 : goal.returns-then-field-eq0
 returns-then-field-eq0 c = subnormal c.args.bits c.requires.0 c.if-field-eq0.true
 

@@ -4,58 +4,20 @@ use Prim.Native.Nat.{ℕ, ◌+◌, ◌-◌, ◌*◌, ◌/◌, ◌%◌, ◌^◌, 
 use native.Mathlib.Omega.{arith}
 use Rattle.roots.proofs.Assemble.{Ranges, ranges, moved, lower, upper, all_digits, nearest}
 use Rattle.roots.proofs.root_bits.Goals as goal
+use Rattle.roots.proofs.root_bits.Goals.{After-normalise-x}
 
-within : (c : goal.After-normalise-x) → Ranges c.args.n c.normalise-x.result.exponent
+within : (c : After-normalise-x) → Ranges c.args.n c.normalise-x.result.exponent
 within c = ranges c.args.n c.normalise-x.result.exponent c.requires.0 c.normalise-x.ensures.1.1.1
 
-pub overflow_sub-shift : goal.overflow_sub-shift
-overflow_sub-shift c = (within c).positive
-
-pub overflow_mul-shift : goal.overflow_mul-shift
-overflow_mul-shift c = let h = (within c).units in omega arith
-
-pub overflow_add-shift : goal.overflow_add-shift
-overflow_add-shift c = let h = (within c.before).units in let k = c.normalise-x.ensures.1.1.1 in omega arith
-
-pub overflow_sub-shift-2 : goal.overflow_sub-shift-2
-overflow_sub-shift-2 c = (within c.before).enough
-
-pub nonzero_rem-shift : goal.nonzero_rem-shift
-nonzero_rem-shift c = (within c.before).positive
-
-pub overflow_add-shift-2 : goal.overflow_add-shift-2
-overflow_add-shift-2 c = let h = (within c.before).left_over in let k = (within c.before).degree_le in omega arith
-
-pub overflow_cast-shift : goal.overflow_cast-shift
-overflow_cast-shift c = let h = (within c.before).left_over in let k = (within c.before).degree_le in omega arith
-
-pub overflow_shl-x : goal.overflow_shl-x
-overflow_shl-x c = let h = (within c.before.before).left_over in let k = (within c.before.before).degree_le in omega arith
-
 -- the significand as it is handed on
-abbrev lifted : (c : goal.After-normalise-x) → ℕ
+abbrev lifted : (c : After-normalise-x) → ℕ
 lifted c = 1 + (c.normalise-x.result.exponent + 149 * (c.args.n - 1) - 24) % c.args.n
 
-shifted : (c : goal.After-normalise-x) → (c.normalise-x.result.significand * 2 ^ lifted c % 18446744073709551616 ≡ c.normalise-x.result.significand * 2 ^ lifted c) × (c.normalise-x.result.significand * 2 ^ lifted c < 2 ^ (24 + c.args.n))
+shifted : (c : After-normalise-x) → (c.normalise-x.result.significand * 2 ^ lifted c % 18446744073709551616 ≡ c.normalise-x.result.significand * 2 ^ lifted c) × (c.normalise-x.result.significand * 2 ^ lifted c < 2 ^ (24 + c.args.n))
 shifted c = moved c.args.n c.normalise-x.result.significand (lifted c) c.normalise-x.ensures.1.1.0 (within c).left_over (within c).degree_le
 
 pub root_digits-h-requires : goal.root_digits-h-requires
 root_digits-h-requires c = let b = c.before.before in (b.requires.0, rw (shifted b).0 (shifted b).1)
-
-pub nonzero_div-result : goal.nonzero_div-result
-nonzero_div-result c = (within c.before.before.before).positive
-
-pub zeros-requires : goal.zeros-requires
-zeros-requires c = c.requires.0
-
-pub overflow_sub-result : goal.overflow_sub-result
-overflow_sub-result c = let h = (within c.before.before.before.before).least_group in let k = c.zeros.ensures.1 in omega arith
-
-pub overflow_mul-result : goal.overflow_mul-result
-overflow_mul-result c = let h = (within c.before.before.before.before).most_group in omega arith
-
-pub overflow_add-result-2 : goal.overflow_add-result-2
-overflow_add-result-2 c = let h = (within c.before.before.before.before).most_group in let k = c.root_digits-h.ensures.1.1 in omega arith
 
 pub returns : goal.returns
 returns c =

@@ -42,8 +42,8 @@ not_taken : (n : ℕ) (x : Float) → root_operand_taken x ≡ false → refused
 unfolding root_says
 not_taken n x f = rw f
 
-taken : (c : goal.Then-takes_root_operand) → root_operand_taken c.args.x ≡ true
-taken c = sym c.takes_root_operand.ensures ∙ c.if-takes_root_operand.true
+taken : (c : goal.Else-not-takes_root_operand) → root_operand_taken c.args.x ≡ true
+taken c = sym c.takes_root_operand.ensures ∙ c.if-not-takes_root_operand.false
 
 pub float_to_bits-bits : goal.float_to_bits-bits
 float_to_bits-bits c = rw (operand_no_nan _ (taken c)) tt
@@ -66,10 +66,10 @@ root_bits-requires c =
 pub float_from_bits-result : goal.float_from_bits-result
 float_from_bits-result c = no_nan _ c.root_bits.ensures.1
 
-pub returns-then-takes_root_operand : goal.returns-then-takes_root_operand
-returns-then-takes_root_operand c =
+pub returns : goal.returns
+returns c =
     let s = c.before.before.before.before in
     rw c.root_bits.ensures.0 (by_pattern s.args.n s.args.x (let it : T (fits binary32 s.args.x) = subst T (sym s.well_formed.1.0.1) tt in it) (taken c.before.before))
 
-pub returns : goal.returns
-returns c = not_taken _ _ (sym c.takes_root_operand.ensures ∙ c.if-takes_root_operand.false)
+pub returns-then-not-takes_root_operand : goal.returns-then-not-takes_root_operand
+returns-then-not-takes_root_operand c = not_taken _ _ (sym c.takes_root_operand.ensures ∙ c.if-not-takes_root_operand.true)

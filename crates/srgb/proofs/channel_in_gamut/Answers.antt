@@ -8,6 +8,6 @@ pub returns-then-v : goal.returns-then-v
 unfolding gamut_channel gamut_low gamut_high of_bits of_int neg round
 returns-then-v c = rw c.if-v.true
 
-pub returns : goal.returns
+pub returns-else-v : goal.returns-else-v
 unfolding gamut_channel gamut_low gamut_high of_bits of_int neg round
-returns c = rw c.if-v.false
+returns-else-v c = rw c.if-v.false

@@ -1,6 +1,7 @@
--- `transfer::decode` meets its contract, by what `decode_constants` says of its table. Assumes nothing.
+-- `transfer::decode` meets its contract, by what its table lists. Assumes nothing.
 use borrow.Author.Rules.{rules}
+use Rattle.transfer.proofs.Constants.{decode_lists}
 use Rattle.transfer.proofs.decode.Goals as goal
 
 pub returns : goal.returns
-returns c = c.decode_constants-constants.ensures.at c.args.code (search rules)
+returns c = decode_lists.at c.args.code (search rules)
