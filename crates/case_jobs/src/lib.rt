@@ -2,58 +2,54 @@
 #![tactic(auto)]
 
 use case_lines::answers::Answer;
-use case_lines::words::{float_at, size_at};
 use case_lines::{digest, hues};
-use cases::Words;
+use cases::Line;
+use patterns::float_of;
 use search_rules::{Best, Job, Settings};
 
-// job k gap levels position tightest h ..: a job with none so far, zeros after the last hue
-pub const JOB: u64 = 0x6a_6f62;
-
-// best chroma dark light tightest: the job has this best and this tightest gap
-pub const BEST: u64 = 0x6265_7374;
-
-// The settings by the first two words of a line.
-pub fn settings_of(words: Words) -> Settings {
-    Settings {
-        k: size_at(words, 0),
-        gap: float_at(words, 1),
-    }
-}
-
-// The job by the words of a line `job`.
-pub fn job_of(words: Words, count: usize) -> Job {
-    let settings = settings_of(words);
-    let hues = hues::sixteen(words, 5, count);
-    Job {
-        settings,
-        levels: size_at(words, 2),
-        position: size_at(words, 3),
-        best: Best::None,
-        hues,
-        tightest: size_at(words, 4),
-    }
-}
-
-// The same job with what the words of a line `best` say.
-pub fn with_best(job: Job, words: Words) -> Job {
-    let settings = job.settings;
-    let hues = job.hues;
-    let best = Best::Found(float_at(words, 0), size_at(words, 1), size_at(words, 2));
-    Job {
-        settings,
-        levels: job.levels,
-        position: job.position,
-        best,
-        hues,
-        tightest: size_at(words, 3),
-    }
-}
-
-// The job of a list in which no line sets one: all its words are 0.
+// The job of a list in which no line sets one: all its numbers are 0.
 pub fn blank() -> Job {
-    let words = [0u32; cases::MOST];
-    job_of(words, 0)
+    Job {
+        settings: Settings { k: 0, gap: 0.0 },
+        levels: 0,
+        position: 0,
+        best: Best::None,
+        hues: [0; 16],
+        tightest: 0,
+    }
+}
+
+// The settings by two words.
+pub fn settings_of(k: u32, gap: u32) -> Settings {
+    Settings {
+        k: k as usize,
+        gap: float_of(gap),
+    }
+}
+
+// Takes a line that sets a job.
+pub fn take_line(line: &Line, job: &mut Job) -> Option<()> {
+    match (line.operation(), line.words()) {
+        // job k gap levels position tightest h ..: a job with none so far, zeros after the last hue
+        (b"job", [k, gap, levels, position, tightest, hues @ ..]) if hues.len() <= 16 => {
+            *job = Job {
+                settings: settings_of(*k, *gap),
+                levels: *levels as usize,
+                position: *position as usize,
+                best: Best::None,
+                hues: hues::sixteen(hues),
+                tightest: *tightest as usize,
+            };
+        }
+
+        // best chroma dark light tightest: the job has this best and this tightest gap
+        (b"best", [chroma, dark, light, tightest]) => {
+            job.best = Best::Found(float_of(*chroma), *dark as usize, *light as usize);
+            job.tightest = *tightest as usize;
+        }
+        _ => return None,
+    }
+    Some(())
 }
 
 // An answer with a best: 1, its chroma and its level indices, or 0 where there is none.
@@ -69,25 +65,25 @@ pub fn shown_best(to: Answer, best: Best) -> Answer {
 }
 
 // An answer with a job: its hue count, gap, levels, position and tightest gap, its best, and its sixteen hues.
-pub fn shown(to: Answer, job: Job) -> Answer {
-    let settings = job.settings;
-    let best = job.best;
-    let hues = job.hues;
+pub fn shown(to: Answer, job: &Job) -> Answer {
     let first = to
-        .with_size(settings.k)
-        .with_float(settings.gap)
+        .with_size(job.settings.k)
+        .with_float(job.settings.gap)
         .with_size(job.levels)
         .with_size(job.position)
         .with_size(job.tightest);
-    shown_best(first, best).with_hues(hues)
+    shown_best(first, job.best).with_hues(job.hues)
 }
 
 // A digest with a number, which counts as the greatest word where it is greater.
 fn with_number(sum: u64, n: usize) -> u64 {
-    if n < 0xffff_ffff {
-        return digest::with_pattern(sum, n as u32);
-    }
-    digest::with_pattern(sum, 0xffff_ffff)
+    let word = u32::try_from(n).unwrap_or(u32::MAX);
+    digest::with_pattern(sum, word)
+}
+
+// A digest with a float by its pattern.
+fn with_float(sum: u64, x: f32) -> u64 {
+    digest::with_pattern(sum, patterns::pattern_of(x))
 }
 
 // A digest with a best: a byte that says whether there is one, and if so its chroma and its level indices.
@@ -95,27 +91,16 @@ fn digested_best(sum: u64, best: Best) -> u64 {
     match best {
         Best::None => digest::with_byte(sum, 0),
         Best::Found(chroma, dark, light) => {
-            let first = digest::with_pattern(
-                digest::with_byte(sum, 1),
-                patterns::pattern_of(chroma),
-            );
+            let first = with_float(digest::with_byte(sum, 1), chroma);
             with_number(with_number(first, dark), light)
         }
     }
 }
 
 // A digest with a job: its hue count, gap, levels and position, its best, its hues, and its tightest gap.
-pub fn digested(sum: u64, job: Job) -> u64 {
-    let settings = job.settings;
-    let best = job.best;
-    let hues = job.hues;
-    let first = digest::with_pattern(
-        with_number(sum, settings.k),
-        patterns::pattern_of(settings.gap),
-    );
+pub fn digested(sum: u64, job: &Job) -> u64 {
+    let first = with_float(with_number(sum, job.settings.k), job.settings.gap);
     let second = with_number(with_number(first, job.levels), job.position);
-    with_number(
-        digest::with_hues(digested_best(second, best), hues),
-        job.tightest,
-    )
+    let third = digest::with_pairs(digested_best(second, job.best), &job.hues);
+    with_number(third, job.tightest)
 }

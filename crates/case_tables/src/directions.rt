@@ -1,145 +1,84 @@
-// The lines that set directions, and those by which the next case is lent others, or a row of another length. One that a list
-// may not have is answered.
-use case_lines::answers;
-use case_lines::words::{float_at, size_at, word_at};
-use cases::Words;
+// The lines that set directions, and those by which the next case is lent others, or a row of another length.
+use cases::Line;
 
-// dir j cos sin: sets direction j
-pub const DIR: u64 = 0x64_6972;
+// How many components of each kind there are.
+const COUNT: usize = 720;
 
-// bad which j bits: the next case is lent this as cosine (0) or sine (1) j
-pub const BAD: u64 = 0x62_6164;
-
-// len c s: the next case is lent the first c cosines and the first s sines
-pub const LEN: u64 = 0x6c_656e;
-
-// size n: the next case is lent a row of n entries
-pub const SIZE: u64 = 0x7369_7a65;
+// How many a case can be lent: those and a zero.
+const LENDABLE: usize = 721;
 
 // The 720 directions.
 #[derive(Clone, Copy)]
 pub struct Directions {
-    pub cos: [f32; 720],
-    pub sin: [f32; 720],
-}
-
-// What the next case is lent, by the lines that wait for it.
-#[derive(Clone, Copy)]
-pub struct Lent {
-    // whether a `len` waits, and how many cosines and sines there are
-    pub cut: bool,
-    pub cosines: usize,
-    pub sines: usize,
-    // whether a `bad` waits, and the component that it puts at a place of the cosines (0) or the sines (1)
-    pub replaced: bool,
-    pub which: u32,
-    pub place: usize,
-    pub component: f32,
-    // whether a `size` waits, and how many entries the row has
-    pub sized: bool,
-    pub entries: usize,
+    pub cos: [f32; COUNT],
+    pub sin: [f32; COUNT],
 }
 
 impl Directions {
-    // Directions that all have this component twice.
-    pub fn all(component: f32) -> Directions {
+    // Directions with zeros.
+    pub fn new() -> Directions {
         Directions {
-            cos: [component; 720],
-            sin: [component; 720],
+            cos: [0.0; COUNT],
+            sin: [0.0; COUNT],
         }
     }
 
-    // With the direction that the words say; one that there is not is answered.
-    pub fn set(mut self, rt: &impl Print, words: Words) -> Directions {
-        let j = size_at(words, 0);
-        if j < 720 {
-            self.cos[j] = float_at(words, 1);
-            self.sin[j] = float_at(words, 2);
-            return self;
-        }
-        answers::malformed(rt);
-        self
-    }
-
-    // With a component at a place of the cosines (0) or the sines (1).
-    fn replaced(mut self, which: u32, place: usize, component: f32) -> Directions {
-        if place < 720 {
-            if which == 0 {
-                self.cos[place] = component;
-            } else {
-                self.sin[place] = component;
-            }
-        }
-        self
+    // Sets direction j, if there is one, by the patterns of its components.
+    pub fn set(&mut self, j: u32, cos: u32, sin: u32) -> Option<()> {
+        *self.cos.get_mut(j as usize)? = patterns::float_of(cos);
+        *self.sin.get_mut(j as usize)? = patterns::float_of(sin);
+        Some(())
     }
 }
 
+// What a case is lent: the first cosines and the first sines, and a row of a length.
+#[derive(Clone, Copy)]
+pub struct Lent {
+    cos: [f32; LENDABLE],
+    sin: [f32; LENDABLE],
+    cosines: usize,
+    sines: usize,
+    pub entries: usize,
+}
+
 impl Lent {
-    // Every direction and a row of as many entries, where nothing waits.
-    fn all() -> Lent {
-        Lent {
-            cut: false,
-            cosines: 720,
-            sines: 720,
-            replaced: false,
-            which: 0,
-            place: 0,
-            component: 0.0,
-            sized: false,
-            entries: 720,
+    // The cosines.
+    pub fn cos(&self) -> &[f32] {
+        &self.cos[..self.cosines.min(LENDABLE)]
+    }
+
+    // The sines.
+    pub fn sin(&self) -> &[f32] {
+        &self.sin[..self.sines.min(LENDABLE)]
+    }
+}
+
+// The place of a component among the cosines or the sines.
+#[derive(Clone, Copy)]
+enum Place {
+    Cosine(usize),
+    Sine(usize),
+}
+
+// What waits for the next case.
+#[derive(Clone, Copy)]
+struct Waiting {
+    // how many cosines and sines it is lent, if a `len` waits
+    counts: Option<(usize, usize)>,
+    // the component that another takes the place of, if a `bad` waits
+    replaced: Option<(Place, f32)>,
+    // how many entries the row has, if a `size` waits
+    entries: Option<usize>,
+}
+
+impl Waiting {
+    // Nothing.
+    fn nothing() -> Waiting {
+        Waiting {
+            counts: None,
+            replaced: None,
+            entries: None,
         }
-    }
-
-    // Whether a line waits.
-    fn waits(self) -> bool {
-        self.cut || self.replaced || self.sized
-    }
-
-    // Whether a `bad` with these words may come.
-    fn takes_bad(self, words: Words) -> bool {
-        !self.replaced && word_at(words, 0) < 2 && word_at(words, 1) < 720
-    }
-
-    // With another component for the next case.
-    fn with_bad(mut self, words: Words) -> Lent {
-        self.replaced = true;
-        self.which = word_at(words, 0);
-        self.place = size_at(words, 1);
-        self.component = float_at(words, 2);
-        self
-    }
-
-    // Whether a `len` with these words may come, where a case can be lent so many at most.
-    fn takes_len(self, words: Words, most: u32) -> bool {
-        !self.cut && word_at(words, 0) <= most && word_at(words, 1) <= most
-    }
-
-    // With only the first cosines and sines for the next case.
-    fn with_len(mut self, words: Words) -> Lent {
-        self.cut = true;
-        self.cosines = size_at(words, 0);
-        self.sines = size_at(words, 1);
-        self
-    }
-
-    // Whether a `size` with these words may come, where a row can have so many entries at most.
-    fn takes_size(self, words: Words, most: u32) -> bool {
-        !self.sized && word_at(words, 0) <= most
-    }
-
-    // With a row of another length for the next case.
-    fn with_size(mut self, words: Words) -> Lent {
-        self.sized = true;
-        self.entries = size_at(words, 0);
-        self
-    }
-
-    // The directions with the component that waits for a place among them, if any does.
-    fn lends(self, directions: Directions) -> Directions {
-        if self.replaced {
-            return directions.replaced(self.which, self.place, self.component);
-        }
-        directions
     }
 }
 
@@ -147,74 +86,103 @@ impl Lent {
 #[derive(Clone, Copy)]
 pub struct Lending {
     pub directions: Directions,
-    // what the next case is lent
-    pub lent: Lent,
+    waiting: Waiting,
+    // how many cosines and how many sines a case can be lent at most
+    most: usize,
+    // how many entries a row can have at most; none where no row is lent
+    longest: Option<usize>,
 }
 
 impl Lending {
     // No line has come yet.
-    pub fn new() -> Lending {
+    pub fn new(most: usize, longest: Option<usize>) -> Lending {
         Lending {
-            directions: Directions::all(0.0),
-            lent: Lent::all(),
+            directions: Directions::new(),
+            waiting: Waiting::nothing(),
+            most,
+            longest,
         }
     }
 
-    // With a direction set.
-    pub fn with_dir(mut self, rt: &impl Print, words: Words) -> Lending {
-        let directions = self.directions;
-        let next = directions.set(rt, words);
-        self.directions = next;
-        self
-    }
+    // Takes a line that sets or lends something.
+    pub fn take_line(&mut self, line: &Line) -> Option<()> {
+        match (line.operation(), line.words()) {
+            // dir j cos sin: sets direction j
+            (b"dir", [j, cos, sin]) => self.directions.set(*j, *cos, *sin)?,
 
-    // With this lent to the next case, if the line may come.
-    fn lending(mut self, rt: &impl Print, may: bool, lent: Lent) -> Lending {
-        if may {
-            self.lent = lent;
-            return self;
+            // bad which j bits: the next case is lent this as cosine (0) or sine (1) j
+            (b"bad", [which, j, bits]) => self.replace(*which, *j as usize, *bits)?,
+
+            // len c s: the next case is lent the first c cosines and the first s sines
+            (b"len", [c, s]) => self.cut(*c as usize, *s as usize)?,
+
+            // size n: the next case is lent a row of n entries
+            (b"size", [n]) => self.size(*n as usize)?,
+            _ => return None,
         }
-        answers::malformed(rt);
-        self
+        Some(())
     }
 
-    // With another component for the next case.
-    pub fn with_bad(self, rt: &impl Print, words: Words) -> Lending {
-        let lent = self.lent;
-        self.lending(rt, lent.takes_bad(words), lent.with_bad(words))
+    // Lends another component to the next case, unless one waits.
+    fn replace(&mut self, which: u32, j: usize, bits: u32) -> Option<()> {
+        let place = match which {
+            0 => Place::Cosine(j),
+            1 => Place::Sine(j),
+            _ => return None,
+        };
+        if self.waiting.replaced.is_some() || j >= COUNT {
+            return None;
+        }
+        self.waiting.replaced = Some((place, patterns::float_of(bits)));
+        Some(())
     }
 
-    // With other numbers of cosines and sines for the next case, up to the most.
-    pub fn with_len(self, rt: &impl Print, words: Words, most: u32) -> Lending {
-        let lent = self.lent;
-        self.lending(rt, lent.takes_len(words, most), lent.with_len(words))
+    // Lends only the first cosines and sines to the next case, unless other numbers wait.
+    fn cut(&mut self, cosines: usize, sines: usize) -> Option<()> {
+        if self.waiting.counts.is_some() || cosines > self.most || sines > self.most {
+            return None;
+        }
+        self.waiting.counts = Some((cosines, sines));
+        Some(())
     }
 
-    // With a row of another length for the next case, up to the most.
-    pub fn with_size(self, rt: &impl Print, words: Words, most: u32) -> Lending {
-        let lent = self.lent;
-        self.lending(rt, lent.takes_size(words, most), lent.with_size(words))
+    // Lends a row of another length to the next case, unless one waits.
+    fn size(&mut self, entries: usize) -> Option<()> {
+        if self.waiting.entries.is_some() || entries > self.longest? {
+            return None;
+        }
+        self.waiting.entries = Some(entries);
+        Some(())
     }
 
-    // The directions that the next case is lent, if it is lent them all.
-    pub fn lends(self) -> Directions {
-        let lent = self.lent;
-        let directions = self.directions;
-        lent.lends(directions)
-    }
-
-    // With nothing that waits for the next case.
-    pub fn after_case(mut self) -> Lending {
-        let all = Lent::all();
-        self.lent = all;
-        self
+    // What the next case is lent; after it nothing waits.
+    pub fn lend(&mut self) -> Lent {
+        let waiting = self.waiting;
+        self.waiting = Waiting::nothing();
+        let mut cos = [0.0; LENDABLE];
+        let mut sin = [0.0; LENDABLE];
+        cos[..COUNT].copy_from_slice(&self.directions.cos);
+        sin[..COUNT].copy_from_slice(&self.directions.sin);
+        match waiting.replaced {
+            Some((Place::Cosine(j), component)) if j < COUNT => cos[j] = component,
+            Some((Place::Sine(j), component)) if j < COUNT => sin[j] = component,
+            _ => {}
+        }
+        let (cosines, sines) = waiting.counts.unwrap_or((COUNT, COUNT));
+        Lent {
+            cos,
+            sin,
+            cosines,
+            sines,
+            entries: waiting.entries.unwrap_or(COUNT),
+        }
     }
 
     // Answers a line that still waits for a case at the end.
-    pub fn finish(self, rt: &impl Print) {
-        let lent = self.lent;
-        if lent.waits() {
-            answers::malformed(rt);
+    pub fn finish(&self, rt: &impl Print) {
+        let waiting = &self.waiting;
+        if waiting.counts.is_some() || waiting.replaced.is_some() || waiting.entries.is_some() {
+            case_lines::answers::malformed(rt);
         }
     }
 }

@@ -8,11 +8,14 @@
 ghost use Rattle.std.specs.Prelude.{◌≡◌};
 ghost use Rattle.cases.specs.Found.{found_of, left_of};
 
+// How many letters an operation can have.
+const LETTERS: usize = 8;
+
+// How many digits a word can have.
+const DIGITS: usize = 8;
+
 // How many words a line can have.
 pub const MOST: usize = 40;
-
-// The words of a line, zeros after the last.
-pub type Words = [u32; MOST];
 
 // What the bytes of a line have been so far.
 #[derive(Clone, Copy)]
@@ -51,193 +54,150 @@ pub struct Line {
     pub stage: Stage,
     // whether its newline was read
     pub ended: bool,
-    // the bytes of the operation in base 256, the first one highest, and how many there are
-    pub operation: u64,
-    pub letters: usize,
+    // the bytes of the operation, and how many there are
+    operation: [u8; LETTERS],
+    letters: usize,
     // the words that are complete, and how many there are
-    pub words: Words,
-    pub count: usize,
+    words: [u32; MOST],
+    count: usize,
     // the word being read, and how many digits of it were read
-    pub word: u32,
-    pub digits: usize,
+    word: u32,
+    digits: usize,
 }
 
 // Whether an operation may have this byte.
 fn is_letter(byte: u8) -> bool {
-    b'a' <= byte && byte <= b'z' || b'0' <= byte && byte <= b'9'
+    matches!(byte, b'a'..=b'z' | b'0'..=b'9')
 }
 
-// What a lowercase hexadecimal digit stands for, and 16 for any other byte.
-fn hex_digit(byte: u8) -> u8 {
-    if b'0' <= byte && byte <= b'9' {
-        return byte - b'0';
+// What a lowercase hexadecimal digit stands for.
+fn hex_digit(byte: u8) -> Option<u8> {
+    match byte {
+        b'0'..=b'9' => Some(byte - b'0'),
+        b'a'..=b'f' => Some(byte - b'a' + 10),
+        _ => None,
     }
-    if b'a' <= byte && byte <= b'f' {
-        return byte - b'a' + 10;
-    }
-    16
 }
 
 impl Line {
     // The first line of a list, of which nothing was read.
     pub fn new() -> Line {
-        Line::numbered(1)
-    }
-
-    // The line with this number, of which nothing was read.
-    fn numbered(number: u64) -> Line {
         Line {
-            number,
+            number: 1,
             stage: Stage::Start,
             ended: false,
-            operation: 0,
+            operation: [0; LETTERS],
             letters: 0,
-            words: [0u32; MOST],
+            words: [0; MOST],
             count: 0,
             word: 0,
             digits: 0,
         }
     }
 
-    // The same line at another stage.
-    fn at(self, stage: Stage) -> Line {
-        let words = self.words;
-        Line {
-            number: self.number,
-            stage,
-            ended: self.ended,
-            operation: self.operation,
-            letters: self.letters,
-            words,
-            count: self.count,
-            word: self.word,
-            digits: self.digits,
-        }
+    // The bytes of the operation.
+    pub fn operation(&self) -> &[u8] {
+        &self.operation[..self.letters.min(LETTERS)]
     }
 
-    // With one more byte of the operation.
-    fn with_letter(mut self, byte: u8) -> Line {
-        if self.letters < 8 && is_letter(byte) {
-            self.operation = self.operation << 8 | byte as u64;
+    // The words that are complete.
+    pub fn words(&self) -> &[u32] {
+        &self.words[..self.count.min(MOST)]
+    }
+
+    // Takes one more byte of the operation.
+    fn take_letter(&mut self, byte: u8) {
+        if self.letters < LETTERS && is_letter(byte) {
+            self.operation[self.letters] = byte;
             self.letters += 1;
-            return self.at(Stage::Operation);
+            self.stage = Stage::Operation;
+        } else {
+            self.stage = Stage::Unreadable;
         }
-        self.at(Stage::Unreadable)
     }
 
-    // With one more digit of the word being read.
-    fn with_digit(mut self, byte: u8) -> Line {
-        let digit = hex_digit(byte);
-        if self.digits < 8 && digit < 16 {
-            self.word = self.word << 4 | digit as u32;
-            self.digits += 1;
-            return self;
+    // Takes one more digit of the word being read.
+    fn take_digit(&mut self, byte: u8) {
+        match hex_digit(byte) {
+            Some(digit) if self.digits < DIGITS => {
+                self.word = self.word << 4 | u32::from(digit);
+                self.digits += 1;
+            }
+            _ => self.stage = Stage::Unreadable,
         }
-        self.at(Stage::Unreadable)
     }
 
-    // With the word being read complete.
-    fn with_word(mut self) -> Line {
-        let count = self.count;
-        if self.digits == 0 {
-            return self.at(Stage::Unreadable);
-        }
-        if count < MOST {
-            self.words[count] = self.word;
-            self.count = count + 1;
+    // Takes the word being read as complete.
+    fn end_word(&mut self) {
+        if 0 < self.digits && self.count < MOST {
+            self.words[self.count] = self.word;
+            self.count += 1;
             self.word = 0;
             self.digits = 0;
-            return self;
-        }
-        self.at(Stage::Unreadable)
-    }
-
-    // With its newline read.
-    fn closed(self) -> Line {
-        let stage = self.stage;
-        let mut line = match stage {
-            Stage::Words => self.with_word(),
-            Stage::Start | Stage::Operation | Stage::Comment | Stage::Unreadable => self,
-        };
-        line.ended = true;
-        line
-    }
-
-    // With one more byte, which is no newline.
-    fn with_byte(self, byte: u8) -> Line {
-        let stage = self.stage;
-        match stage {
-            Stage::Start => {
-                if byte == b'#' {
-                    self.at(Stage::Comment)
-                } else {
-                    self.with_letter(byte)
-                }
-            }
-            Stage::Operation => {
-                if byte == b' ' {
-                    self.at(Stage::Words)
-                } else {
-                    self.with_letter(byte)
-                }
-            }
-            Stage::Words => {
-                if byte == b' ' {
-                    self.with_word()
-                } else {
-                    self.with_digit(byte)
-                }
-            }
-            Stage::Comment | Stage::Unreadable => self,
+        } else {
+            self.stage = Stage::Unreadable;
         }
     }
 
-    // The line after the next byte of the list: the same one with that byte, or a new one where this one
-    // has ended.
-    pub fn fed(self, byte: u8) -> Line {
-        let mut line = self;
-        if line.ended {
-            line = Line::numbered(std::num::wrapping_add_u64(line.number, 1));
+    // Takes one more byte, which is no newline.
+    fn take_byte(&mut self, byte: u8) {
+        match (self.stage, byte) {
+            (Stage::Start, b'#') => self.stage = Stage::Comment,
+            (Stage::Operation, b' ') => self.stage = Stage::Words,
+            (Stage::Start | Stage::Operation, _) => self.take_letter(byte),
+            (Stage::Words, b' ') => self.end_word(),
+            (Stage::Words, _) => self.take_digit(byte),
+            (Stage::Comment | Stage::Unreadable, _) => {}
+        }
+    }
+
+    // Takes its newline.
+    fn end(&mut self) {
+        if let Stage::Words = self.stage {
+            self.end_word();
+        }
+        self.ended = true;
+    }
+
+    // Takes the next byte of the list, as the first of a new line where this one has ended.
+    pub fn feed(&mut self, byte: u8) {
+        if self.ended {
+            *self = Line {
+                number: self.number.wrapping_add(1),
+                ..Line::new()
+            };
         }
         if byte == b'\n' {
-            return line.closed();
+            self.end();
+        } else {
+            self.take_byte(byte);
         }
-        line.with_byte(byte)
     }
 
     // What the line is.
-    pub fn found(self) -> Found
-        ensures { result ≡ found_of self.ended self.stage }
+    pub fn found(&self) -> Found
+        ensures { result ≡ found_of self.now.ended self.now.stage }
     {
-        let ended = self.ended;
-        let stage = self.stage;
-        if ended {
-            return match stage {
-                Stage::Start => Found::Nothing,
-                Stage::Comment => Found::Nothing,
-                Stage::Operation => Found::Case,
-                Stage::Words => Found::Case,
-                Stage::Unreadable => Found::Malformed,
-            };
+        if !self.ended {
+            return Found::Open;
         }
-        Found::Open
+        match self.stage {
+            Stage::Start | Stage::Comment => Found::Nothing,
+            Stage::Operation | Stage::Words => Found::Case,
+            Stage::Unreadable => Found::Malformed,
+        }
     }
 
     // What the list's end leaves: a line that was cut is malformed.
-    pub fn left(self) -> Found
-        ensures { result ≡ left_of self.ended self.stage }
+    pub fn left(&self) -> Found
+        ensures { result ≡ left_of self.now.ended self.now.stage }
     {
-        let ended = self.ended;
-        let stage = self.stage;
-        if ended {
+        if self.ended {
             return Found::Nothing;
         }
-        match stage {
-            Stage::Start => Found::Nothing,
-            Stage::Comment => Found::Nothing,
-            Stage::Operation => Found::Malformed,
-            Stage::Words => Found::Malformed,
-            Stage::Unreadable => Found::Malformed,
+        match self.stage {
+            Stage::Start | Stage::Comment => Found::Nothing,
+            Stage::Operation | Stage::Words | Stage::Unreadable => Found::Malformed,
         }
     }
 }

@@ -1,9 +1,10 @@
 -- Document 02, Req 08: "For a job and its table give the best so far and a ceiling: over the qualifying pairs still to come, the greatest of the lesser of both rows' largest
 -- entries. If no qualifying pair is left, say so instead of a ceiling." What the call says for every job record and table. Definitions only.
-use Rattle.std.specs.Prelude.{ℕ, ◌-◌, ◌*◌, cond, List, eqb, Float, length}
+use Rattle.std.specs.Prelude.{ℕ, ◌-◌, ◌*◌, cond, List, eqb, Float, length, Option, Some, None, Result, Ok, Err}
 use Rattle.limits.specs.Answers.{Said, value, refused}
 use Rattle.limits.specs.Refusals.{number}
 use Rattle.limits.specs.Taken.{entry_taken, every}
+use Rattle.limits.specs.declared.Refusal.{Refusal}
 use Rattle.gamut.specs.Table.{row_at}
 use Rattle.pair_rules.specs.Rows.{lesser, greater, largest}
 use Rattle.search_rules.specs.declared.Settings.{Settings}
@@ -12,7 +13,6 @@ use Rattle.search_rules.specs.declared.Job.{Job}
 use Rattle.search_rules.specs.Job.{unbroken, dark_at, light_at, qualifies}
 use Rattle.search_rules.specs.Loops.{loop}
 use Rattle.ceiling_rules.specs.declared.Outlook.{Outlook}
-use Rattle.ceiling_rules.specs.declared.Outlook.TheVariants.{Ahead, Through, Refused}
 
 -- no qualifying pair is left, or the ceiling
 pub data Ceiling : Type 0 where
@@ -48,8 +48,12 @@ outlook_checked j t good = cond (unbroken j) (cond (eqb (length t) (j.levels * 7
 unfoldable pub outlook_says : Job → List Float → Said (Best × Ceiling)
 outlook_says j t = outlook_checked j t (value (j.best, ceiling_of j t))
 
+-- what an answer says of the ceiling
+abbrev pub ceiling_said : Option Float → Ceiling
+ceiling_said None = none_left
+ceiling_said (Some x) = at_most x
+
 -- what an answer says
-abbrev pub outlook_said : Outlook → Said (Best × Ceiling)
-outlook_said (Ahead b x) = value (b, at_most x)
-outlook_said (Through b) = value (b, none_left)
-outlook_said (Refused w) = refused (number w)
+abbrev pub outlook_said : Result Outlook Refusal → Said (Best × Ceiling)
+outlook_said (Ok o) = value (o.best, ceiling_said o.ceiling)
+outlook_said (Err w) = refused (number w)

@@ -2,16 +2,13 @@
 // the code is the crate `ceiling`.
 #![tactic(auto)]
 
-use limits::Refusal;
 use search_rules::Best;
 
 // What a look ahead says.
 #[derive(Clone, Copy)]
-pub enum Outlook {
-    // the best so far, and the ceiling of the pairs still to come
-    Ahead(Best, f32),
-    // the best so far, and no qualifying pair is left
-    Through(Best),
-    // refused by 15, 6 or 7
-    Refused(Refusal),
+pub struct Outlook {
+    // the best so far
+    pub best: Best,
+    // the ceiling of the pairs still to come; none where no qualifying pair is left
+    pub ceiling: Option<f32>,
 }

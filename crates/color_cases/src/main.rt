@@ -6,48 +6,26 @@ mod conversions;
 mod hues;
 mod operations;
 
-use case_lines::{Reader, answers};
 use case_tables::directions::Lending;
 use cases::Line;
-use std::io::Read;
 
-// What the next case is lent after a line, which is answered if it is a case.
-fn take_line(rt: &impl Print, line: Line, lending: Lending) -> Lending {
-    let operation = line.operation;
-    let words = line.words;
-    if !operations::takes(operation, line.count) {
-        answers::malformed(rt);
-        return lending;
-    }
-    match operation {
-        case_tables::directions::DIR => lending.with_dir(rt, words),
-        case_tables::directions::BAD => lending.with_bad(rt, words),
-        case_tables::directions::LEN => lending.with_len(rt, words, 720),
-        operations::HUE => hues::answer(rt, line, lending),
-        _ => {
-            conversions::answer(rt, line);
-            lending
-        }
-    }
-}
-
-// Reads the list to its end. A proved loop ends, so it counts turns down.
-fn take_all(rt: &impl Print, input: &mut impl Read) -> Lending {
-    let mut reader = Reader::new();
-    let mut lending = Lending::new();
-    let mut turns = case_lines::TURNS;
-    while turns > 0 && reader.more {
-        reader = reader.read_on(rt, input);
-        if reader.case {
-            lending = take_line(rt, reader.line, lending);
-        }
-        turns -= 1;
-    }
-    lending
+// Takes a line, which is answered if it is a case.
+fn take_line(rt: &impl Print, line: &Line, lending: &mut Lending) -> Option<()> {
+    let answer = match (line.operation(), line.words()) {
+        // hue L a b = number h: `Lab::hue_deg`, or the number of its refusal and 0
+        (b"hue", [l, a, b]) => hues::hue(lending.lend(), conversions::lab_of(*l, *a, *b)),
+        (operation, words) => match operations::came_out(operation, words) {
+            Some(answer) => answer,
+            None => return lending.take_line(line),
+        },
+    };
+    answer.write(rt, line);
+    Some(())
 }
 
 // Answers the list.
 fn main(rt: HostRuntime) {
-    let mut input = rt.reader();
-    take_all(&rt, &mut input).finish(&rt);
+    let mut lending = Lending::new(720, None);
+    case_lines::each_case(&rt, |line| take_line(&rt, line, &mut lending));
+    lending.finish(&rt);
 }

@@ -1,69 +1,64 @@
-// The cases that a list may have, each by its bytes in base 256, with the words of its line and what comes out.
+// The cases that a list may have and that turn on the line's words alone, each with its words and what comes out.
+use crate::conversions::{
+    clipped, codes, codes_of, float, lab, lab_of, linear, linear_of, root, xyz, xyz_of,
+};
+use case_lines::answers::Answer;
+use patterns::float_of;
 
-// sqrt x = number r: the square root, or the number of its refusal and 0
-pub const SQRT: u64 = 0x7371_7274;
+// What comes out of a case.
+pub fn came_out(operation: &[u8], words: &[u32]) -> Option<Answer> {
+    let answer = match (operation, words) {
+        // sqrt x = number r: the square root, or the number of its refusal and 0
+        (b"sqrt", [x]) => root(roots::sqrt(float_of(*x))),
 
-// cbrt x = number r: the cube root, likewise
-pub const CBRT: u64 = 0x6362_7274;
+        // cbrt x = number r: the cube root, likewise
+        (b"cbrt", [x]) => root(roots::cbrt(float_of(*x))),
 
-// labf t = r: `lab_f`
-pub const LABF: u64 = 0x6c61_6266;
+        // labf t = r: `lab_f`
+        (b"labf", [t]) => float(color::lab_f(float_of(*t))),
 
-// labfinv t = r: `lab_f_inv`
-pub const LABFINV: u64 = 0x6c_6162_6669_6e76;
+        // labfinv t = r: `lab_f_inv`
+        (b"labfinv", [t]) => float(color::lab_f_inv(float_of(*t))),
 
-// s2l r g b = R G B: codes to linear light
-pub const S2L: u64 = 0x73_326c;
+        // s2l r g b = R G B: codes to linear light
+        (b"s2l", [r, g, b]) => linear(srgb::srgb8_to_linear(codes_of(*r, *g, *b)?)),
 
-// l2s R G B = r g b: linear light to codes
-pub const L2S: u64 = 0x6c_3273;
+        // l2s R G B = r g b: linear light to codes
+        (b"l2s", [r, g, b]) => codes(srgb::linear_to_srgb8(linear_of(*r, *g, *b))),
 
-// l2x R G B = X Y Z: linear light to XYZ
-pub const L2X: u64 = 0x6c_3278;
+        // l2x R G B = X Y Z: linear light to XYZ
+        (b"l2x", [r, g, b]) => xyz(color::linear_to_xyz(linear_of(*r, *g, *b))),
 
-// x2l X Y Z = R G B: XYZ to linear light
-pub const X2L: u64 = 0x78_326c;
+        // x2l X Y Z = R G B: XYZ to linear light
+        (b"x2l", [x, y, z]) => linear(color::xyz_to_linear(xyz_of(*x, *y, *z))),
 
-// x2lab X Y Z = L a b: XYZ to Lab
-pub const X2LAB: u64 = 0x78_326c_6162;
+        // x2lab X Y Z = L a b: XYZ to Lab
+        (b"x2lab", [x, y, z]) => lab(color::xyz_to_lab(xyz_of(*x, *y, *z))),
 
-// lab2x L a b = X Y Z: Lab to XYZ
-pub const LAB2X: u64 = 0x6c_6162_3278;
+        // lab2x L a b = X Y Z: Lab to XYZ
+        (b"lab2x", [l, a, b]) => xyz(color::lab_to_xyz(lab_of(*l, *a, *b))),
 
-// l2lab R G B = L a b: linear light to Lab
-pub const L2LAB: u64 = 0x6c_326c_6162;
+        // l2lab R G B = L a b: linear light to Lab
+        (b"l2lab", [r, g, b]) => lab(color::linear_to_lab(linear_of(*r, *g, *b))),
 
-// lab2l L a b = R G B: Lab to linear light
-pub const LAB2L: u64 = 0x6c_6162_326c;
+        // lab2l L a b = R G B: Lab to linear light
+        (b"lab2l", [l, a, b]) => linear(color::lab_to_linear(lab_of(*l, *a, *b))),
 
-// s2lab r g b = L a b: codes to Lab
-pub const S2LAB: u64 = 0x73_326c_6162;
+        // s2lab r g b = L a b: codes to Lab
+        (b"s2lab", [r, g, b]) => lab(color::srgb8_to_lab(codes_of(*r, *g, *b)?)),
 
-// clamp R G B = R G B: `Linear::clamped`
-pub const CLAMP: u64 = 0x63_6c61_6d70;
+        // clamp R G B = R G B: `Linear::clamped`
+        (b"clamp", [r, g, b]) => linear(linear_of(*r, *g, *b).clamped()),
 
-// gamut R G B = t: `Linear::in_gamut`
-pub const GAMUT: u64 = 0x67_616d_7574;
+        // gamut R G B = t: `Linear::in_gamut`
+        (b"gamut", [r, g, b]) => Answer::new().with_bool(linear_of(*r, *g, *b).in_gamut()),
 
-// chroma L a b = c: `Lab::chroma`
-pub const CHROMA: u64 = 0x6368_726f_6d61;
+        // chroma L a b = c: `Lab::chroma`
+        (b"chroma", [l, a, b]) => float(lab_of(*l, *a, *b).chroma()),
 
-// hue L a b = number h: `Lab::hue_deg`, or the number of its refusal and 0
-pub const HUE: u64 = 0x68_7565;
-
-// clip l c cos sin = r g b chroma: `lch_to_srgb8_gamut_clipped`
-pub const CLIP: u64 = 0x636c_6970;
-
-// Whether a line of an operation may have so many words.
-pub fn takes(operation: u64, count: usize) -> bool {
-    match operation {
-        SQRT | CBRT | LABF | LABFINV => count == 1,
-        case_tables::directions::LEN => count == 2,
-        case_tables::directions::DIR | case_tables::directions::BAD | HUE => count == 3,
-        S2L | L2S | L2X | X2L | X2LAB | LAB2X | L2LAB | LAB2L | S2LAB | CLAMP | GAMUT | CHROMA => {
-            count == 3
-        }
-        CLIP => count == 4,
-        _ => false,
-    }
+        // clip l c cos sin = r g b chroma: `lch_to_srgb8_gamut_clipped`
+        (b"clip", [l, c, cos, sin]) => clipped(*l, *c, *cos, *sin),
+        _ => return None,
+    };
+    Some(answer)
 }

@@ -3,11 +3,7 @@ use case_lines::digest;
 
 // The digest of a row.
 pub fn of(row: &[f32]) -> u64 {
-    let mut sum = digest::START;
-    let mut i = 0;
-    while i < row.len() {
-        sum = digest::with_pattern(sum, patterns::pattern_of(row[i]));
-        i += 1;
-    }
-    sum
+    row.iter().fold(digest::START, |sum, entry| {
+        digest::with_pattern(sum, patterns::pattern_of(*entry))
+    })
 }

@@ -1,47 +1,30 @@
 // Cases that give one float.
-use case_lines::answers;
 use case_lines::answers::Answer;
-use case_lines::words::{float_at, size_at, word_at};
 use case_tables::directions::Directions;
-use cases::Line;
 use gamut::Gamut;
+use patterns::float_of;
 
-// The lightness of a level, which is below 65536.
-fn lightness(level: u32) -> f32 {
-    Gamut::l_of((level % 0x1_0000) as u16)
+// The lightness of a level that is below 65536.
+fn lightness_of(level: u32) -> Option<f32> {
+    let level = u16::try_from(level).ok()?;
+    Some(Gamut::l_of(level))
 }
 
-// Answers with the entry of a level in a direction.
-pub fn answer_entry(rt: &impl Print, line: Line, all: Directions) {
-    let words = line.words;
-    let cos = all.cos;
-    let sin = all.sin;
-    let level = word_at(words, 0);
-    let j = size_at(words, 1);
-    if level < 0x1_0000 {
-        if j < 720 {
-            let entry = gamut::max_chroma(lightness(level), cos[j], sin[j]);
-            Answer::new().with_float(entry).write(rt, line);
-            return;
-        }
-    }
-    answers::malformed(rt);
+// The entry of a level in a direction, if there is one.
+pub fn entry(level: u32, j: usize, directions: &Directions) -> Option<Answer> {
+    let cos = directions.cos.get(j)?;
+    let sin = directions.sin.get(j)?;
+    let entry = gamut::max_chroma(lightness_of(level)?, *cos, *sin);
+    Some(Answer::new().with_float(entry))
 }
 
-// Answers with the chroma found at a lightness in a direction.
-pub fn answer_chroma(rt: &impl Print, line: Line) {
-    let words = line.words;
-    let chroma = gamut::max_chroma(float_at(words, 0), float_at(words, 1), float_at(words, 2));
-    Answer::new().with_float(chroma).write(rt, line);
+// The chroma found at a lightness in a direction.
+pub fn chroma(l: u32, cos: u32, sin: u32) -> Answer {
+    let chroma = gamut::max_chroma(float_of(l), float_of(cos), float_of(sin));
+    Answer::new().with_float(chroma)
 }
 
-// Answers with the lightness of a level.
-pub fn answer_lightness(rt: &impl Print, line: Line) {
-    let words = line.words;
-    let level = word_at(words, 0);
-    if level < 0x1_0000 {
-        Answer::new().with_float(lightness(level)).write(rt, line);
-        return;
-    }
-    answers::malformed(rt);
+// The lightness of a level, if it has one.
+pub fn lightness(level: u32) -> Option<Answer> {
+    Some(Answer::new().with_float(lightness_of(level)?))
 }

@@ -4,15 +4,15 @@
 
 ghost use Rattle.std.specs.Prelude.{◌≡◌, ℕ, length};
 ghost use Rattle.limits.specs.Answers.{Untouched};
+ghost use Rattle.limits.specs.Refusals.{said};
 ghost use Rattle.placement_rules.specs.Placing.{placement_says, tightest_beside};
 ghost use Rattle.pair_rules.specs.Pair as pair;
-ghost use Rattle.pair_rules.specs.Pair.{pair_says, answers};
-ghost use Rattle.gamut.specs.Gamut.{fill_said, fill_says, row_after};
+ghost use Rattle.pair_rules.specs.Pair.{pair_says, chosen_said, tightest_of};
+ghost use Rattle.gamut.specs.Gamut.{fill_says, row_after};
 ghost use Rattle.handing.specs.Numbers.{number_of, place_number, hues_after, gap_after, best_number, best_hues, best_chroma};
 
-use gamut::Filling;
+use limits::Refusal;
 use pair::Chosen;
-use placement::Answer;
 
 // What is given where there is no placement.
 const NO_PLACEMENT: u32 = 255;
@@ -20,13 +20,13 @@ const NO_PLACEMENT: u32 = 255;
 // What is given where no chroma is found.
 const NO_CHROMA: u32 = 255;
 
-// An answer as one number.
-fn number_of(filling: Filling) -> u32
-    ensures { result ≡ number_of (fill_said filling) }
+// A row's filling as one number.
+fn number_of(filled: Result<(), Refusal>) -> u32
+    ensures { result ≡ number_of (said filled) }
 {
-    match filling {
-        Filling::Filled => 0,
-        Filling::Refused(why) => why.number() as u32,
+    match filled {
+        Ok(()) => 0,
+        Err(why) => u32::from(why.number()),
     }
 }
 
@@ -58,56 +58,56 @@ pub fn place(
         (tightest_beside (length m.now) k (placement_says k step c m.now (length work.old))) tightest.old }
     ensures untouched { Untouched (placement_says k step c m.now (length work.old)) work.old work.new }
 {
-    let found = placement::feasible(m, c, k, step, work);
-    let answer = found.answer;
-    let given = found.hues;
-    match answer {
-        Answer::Placed => {
-            *hues = given;
+    match placement::feasible(m, c, k, step, work) {
+        Ok(Some(found)) => {
+            let placed = found.hues;
+            *hues = placed;
             *tightest = [found.tightest];
             0
         }
-        Answer::Nowhere => {
-            *hues = given;
-            *tightest = [found.tightest];
+        Ok(None) => {
+            *hues = [0; 16];
+            *tightest = [0];
             NO_PLACEMENT
         }
-        Answer::Refused(why) => why.number() as u32,
+        Err(why) => u32::from(why.number()),
     }
 }
 
 // What a best hands over: 0 with the chroma and its sixteen hues, 255 with zeros for hues and the chroma as before where there is none,
 // or the number of a refusal, with both as before.
-pub fn hand(chosen: Chosen, hues: &mut [u16; 16], chroma: &mut [f32; 1]) -> u32
-    ensures { (result ≡ best_number (answers chosen.answer chosen.hues))
-        × ((hues.new ≡ best_hues (answers chosen.answer chosen.hues) hues.old)
-        × (chroma.new ≡ best_chroma (answers chosen.answer chosen.hues) chroma.old)) }
+pub fn hand(
+    chosen: Result<Option<Chosen>, Refusal>,
+    hues: &mut [u16; 16],
+    chroma: &mut [f32; 1],
+) -> u32
+    ensures { (result ≡ best_number (chosen_said chosen))
+        × ((hues.new ≡ best_hues (chosen_said chosen) hues.old)
+        × (chroma.new ≡ best_chroma (chosen_said chosen) chroma.old)) }
 {
-    let answer = chosen.answer;
-    let given = chosen.hues;
-    match answer {
-        pair::Answer::Found(c) => {
-            *hues = given;
-            *chroma = [c];
+    match chosen {
+        Ok(Some(best)) => {
+            let placed = best.hues;
+            *hues = placed;
+            *chroma = [best.chroma];
             0
         }
-        pair::Answer::Nothing => {
-            *hues = [0u16; 16];
+        Ok(None) => {
+            *hues = [0; 16];
             NO_CHROMA
         }
-        pair::Answer::Refused(why) => why.number() as u32,
+        Err(why) => u32::from(why.number()),
     }
 }
 
 // What a best hands over of the smallest gap: that of its hues, 0 where there is none; where it is refused the number is as before.
-fn hand_gap(chosen: Chosen, tightest: &mut [usize; 1])
-    ensures { tightest.new ≡ gap_after (answers chosen.answer chosen.hues) chosen.tightest tightest.old }
+fn hand_gap(chosen: Result<Option<Chosen>, Refusal>, tightest: &mut [usize; 1])
+    ensures { tightest.new ≡ gap_after (chosen_said chosen) (tightest_of chosen) tightest.old }
 {
-    let answer = chosen.answer;
-    match answer {
-        pair::Answer::Found(_) => *tightest = [chosen.tightest],
-        pair::Answer::Nothing => *tightest = [chosen.tightest],
-        pair::Answer::Refused(_) => {}
+    match chosen {
+        Ok(Some(best)) => *tightest = [best.tightest],
+        Ok(None) => *tightest = [0],
+        Err(_) => {}
     }
 }
 

@@ -1,5 +1,5 @@
 // The page of a job for the service book.
-use crate::{show, words};
+use crate::words::Refused;
 use page::Laid;
 use search::Job;
 
@@ -8,14 +8,15 @@ const LONGEST: usize = 861;
 
 // Writes the page of a job.
 pub fn write(rt: &impl Print, job: Job) {
-    let mut bytes = [0u8; 861];
-    let laid = page::lay_out(job, &mut bytes);
-    match laid {
-        Laid::Refused(why) => show::refused(rt, why.number()),
+    let mut bytes = [0; LONGEST];
+    match page::lay_out(job, &mut bytes) {
+        Laid::Refused(why) => {
+            let _ = println!(rt; "{}", Refused(why));
+        }
         Laid::Bytes(count) => {
-            if count <= LONGEST {
-                words::say(rt, b"for the service book\n");
-                words::say(rt, &bytes[0..count]);
+            if let Some(page) = bytes.get(..count) {
+                let _ = println!(rt; "for the service book");
+                let _ = rt.write_all(page);
             }
         }
     }

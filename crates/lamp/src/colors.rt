@@ -1,139 +1,72 @@
 // The lines that say what validation and back-off find, and the colours.
-use crate::{numbers, show, words};
+use crate::numbers::{Halves, Metric, exact};
+use crate::show;
+use crate::words::{Found, Refused};
 use metrics::Metrics;
-use palette::{BackOff, Design, Finding, Validation, Verdict};
+use palette::{BackOff, Design, Validation, Verdict};
 use srgb::Srgb8;
-
-// Writes a finding, by its number and what it is.
-fn finding_line(rt: &impl Print, finding: Finding) {
-    let number = finding.number();
-    words::say(rt, b"finding ");
-    numbers::whole(rt, number as u64);
-    words::finding(rt, number);
-}
-
-// Writes the first finding, or that there is none.
-fn verdict_line(rt: &impl Print, verdict: Verdict) {
-    match verdict {
-        Verdict::Passed => words::say(rt, b"no finding\n"),
-        Verdict::Found(finding) => finding_line(rt, finding),
-    }
-}
 
 // Writes the four metrics.
 fn metric_lines(rt: &impl Print, metrics: Metrics) {
-    show::metric_line(
-        rt,
-        b"colours of this design at the chroma found\ngap ",
-        metrics.gap,
-    );
-    show::metric_line(rt, b"spread ", metrics.spread);
-    show::metric_line(rt, b"hue separation ", metrics.separation);
-    show::metric_line(rt, b"least chroma ", metrics.chroma);
+    let _ = println!(rt; "colours of this design at the chroma found");
+    let _ = println!(rt; "gap {}", Metric(metrics.gap));
+    let _ = println!(rt; "spread {}", Metric(metrics.spread));
+    let _ = println!(rt; "hue separation {}", Metric(metrics.separation));
+    let _ = println!(rt; "least chroma {}", Metric(metrics.chroma));
 }
 
-// Writes what validation says.
+// Writes what validation says: the metrics, and the first finding or that there is none.
 pub fn validation(rt: &impl Print, said: Validation) {
-    match said {
-        Validation::Refused(why) => show::refused(rt, why.number()),
+    let _ = match said {
+        Validation::Refused(why) => println!(rt; "{}", Refused(why)),
         Validation::Measured(metrics, verdict) => {
             metric_lines(rt, metrics);
-            verdict_line(rt, verdict);
+            match verdict {
+                Verdict::Passed => println!(rt; "no finding"),
+                Verdict::Found(finding) => println!(rt; "{}", Found(finding)),
+            }
         }
-    }
+    };
 }
 
-// Writes a colour.
-fn color_line(rt: &impl Print, color: u64, level: usize, hue: u16) {
-    words::say(rt, b"#");
-    numbers::hex(rt, color, 6);
-    show::lightness(rt, level);
-    show::degrees(rt, hue);
-}
-
-// The colour in a place as one number, red highest, or black where there is no such place.
-fn color_at(colors: [Srgb8; 32], at: usize) -> u64 {
-    if at < 32 {
-        let color = colors[at];
-        return (color.r as u64) << 16 | (color.g as u64) << 8 | color.b as u64;
-    }
-    0
-}
-
-// Writes the k colours of a level, of which the first stands in a place.
-fn level_lines(
-    rt: &impl Print,
-    k: usize,
-    hues: [u16; 16],
-    level: usize,
-    colors: [Srgb8; 32],
-    first: usize,
-) {
-    let mut i = 0;
-    while i < 16 {
-        if i < k {
-            let color = color_at(colors, std::num::wrapping_add_usize(first, i));
-            color_line(rt, color, level, hues[i]);
-        }
-        i += 1;
+// Writes the colours of a level, each with its hue.
+fn level_lines(rt: &impl Print, level: usize, hues: &[u16], colors: &[Srgb8]) {
+    let lightness = show::lightness(level);
+    for (hue, color) in hues.iter().zip(colors) {
+        let hex = color.to_hex();
+        let degrees = Halves(u64::from(*hue));
+        let _ = println!(rt; "#{hex:06x}, lightness {lightness}, {degrees} degrees");
     }
 }
 
 // Writes the least chroma that colours have, by what validation says of them.
 pub fn least(rt: &impl Print, said: Validation) {
-    match said {
-        Validation::Refused(why) => show::refused(rt, why.number()),
+    let _ = match said {
+        Validation::Refused(why) => println!(rt; "{}", Refused(why)),
         Validation::Measured(metrics, _) => {
-            show::metric_line(rt, b"least chroma of its colours ", metrics.chroma)
+            println!(rt; "least chroma of its colours {}", Metric(metrics.chroma))
         }
-    }
+    };
 }
 
-// Writes the colours of a design.
+// Writes the colours of a design: the first k are dark, and the k after them light.
 pub fn lines(rt: &impl Print, design: Design, colors: [Srgb8; 32]) {
-    let k = design.k;
-    let hues = design.hues;
-    level_lines(rt, k, hues, design.dark, colors, 0);
-    level_lines(rt, k, hues, design.light, colors, k);
-}
-
-// Writes the chroma that passed.
-fn passed(rt: &impl Print, chroma: f32) -> bool {
-    show::float_line(rt, b"no finding at chroma ", chroma);
-    true
-}
-
-// Writes that no chroma was tried.
-fn untried(rt: &impl Print) -> bool {
-    words::say(rt, b"no chroma tried\n");
-    false
-}
-
-// Writes that every chroma tried has a finding, and the last one.
-fn all_found(rt: &impl Print, finding: Finding) -> bool {
-    words::say(
-        rt,
-        b"every chroma tried down to 35 has a finding, the last one ",
-    );
-    finding_line(rt, finding);
-    false
-}
-
-// Writes what back-off says, and says whether a chroma passed.
-fn answered(rt: &impl Print, answer: BackOff) -> bool {
-    match answer {
-        BackOff::Passed(chroma) => passed(rt, chroma),
-        BackOff::Untried => untried(rt),
-        BackOff::Found(finding) => all_found(rt, finding),
-        BackOff::Refused(why) => {
-            show::refused(rt, why.number());
-            false
-        }
-    }
+    let k = design.k.min(16);
+    level_lines(rt, design.dark, &design.hues[..k], &colors[..k]);
+    level_lines(rt, design.light, &design.hues[..k], &colors[k..]);
 }
 
 // Writes what back-off says of a design, and says whether a chroma passed.
 pub fn passes(rt: &impl Print, answer: BackOff) -> bool {
-    words::say(rt, b"backed off, this design alone: ");
-    answered(rt, answer)
+    let _ = print!(rt; "backed off, this design alone: ");
+    let _ = match answer {
+        BackOff::Passed(chroma) => println!(rt; "no finding at chroma {}", exact(chroma)),
+        BackOff::Untried => println!(rt; "no chroma tried"),
+        BackOff::Found(finding) => println!(rt;
+            "every chroma tried down to 35 has a finding, the last one {}",
+            Found(finding)
+        ),
+        BackOff::Refused(why) => println!(rt; "{}", Refused(why)),
+    };
+    matches!(answer, BackOff::Passed(_))
 }

@@ -13,42 +13,48 @@ mod show;
 mod table;
 mod words;
 
+use input::Asked;
 use palette::{Derivation, Design, Validation};
 use search::{Best, Job, Settings};
 use srgb::Srgb8;
+use words::Refused;
 
 // What validation says of the colours of k hues.
 fn measured(k: usize, colors: [Srgb8; 32], cos: &[f32], sin: &[f32]) -> Validation {
-    palette::validate(k, colors, std::num::wrapping_add_usize(k, k), cos, sin)
+    palette::validate(k, colors, k.wrapping_add(k), cos, sin)
 }
 
 // Derives a design's palette at the chroma found, and writes what validation says of it.
 fn derive(rt: &impl Print, design: Design, chroma: f32, cos: &[f32], sin: &[f32]) {
     let derived = palette::derive(design, chroma, cos, sin);
-    let answer = derived.answer;
-    let colors = derived.colors;
-    match answer {
-        Derivation::Refused(why) => show::refused(rt, why.number()),
-        Derivation::Derived => colors::validation(rt, measured(design.k, colors, cos, sin)),
+    match derived.answer {
+        Derivation::Refused(why) => {
+            let _ = println!(rt; "{}", Refused(why));
+        }
+        Derivation::Derived => {
+            colors::validation(rt, measured(design.k, derived.colors, cos, sin));
+        }
     }
 }
 
 // Backs off from the chroma found, and writes what comes of it: of the chroma that passed, what is measured and the colours.
 fn back_off(rt: &impl Print, design: Design, chroma: f32, cos: &[f32], sin: &[f32]) {
     let back = palette::back_off(design, chroma, cos, sin);
-    let answer = back.answer;
-    let colors = back.colors;
-    if colors::passes(rt, answer) {
-        colors::least(rt, measured(design.k, colors, cos, sin));
-        colors::lines(rt, design, colors);
+    if colors::passes(rt, back.answer) {
+        colors::least(rt, measured(design.k, back.colors, cos, sin));
+        colors::lines(rt, design, back.colors);
     }
 }
 
 // Writes what a search found, with its colours.
 fn finish(rt: &impl Print, found: Job, cos: &[f32], sin: &[f32]) {
-    let settings = found.settings;
-    let best = found.best;
-    let hues = found.hues;
+    let Job {
+        settings,
+        best,
+        hues,
+        tightest,
+        ..
+    } = found;
     match best {
         Best::None => show::none(rt, settings),
         Best::Found(chroma, dark, light) => {
@@ -58,7 +64,7 @@ fn finish(rt: &impl Print, found: Job, cos: &[f32], sin: &[f32]) {
                 light,
                 hues,
             };
-            show::found(rt, design, found.tightest, chroma);
+            show::found(rt, design, tightest, chroma);
             show::limit(rt, settings, chroma);
             derive(rt, design, chroma, cos, sin);
             back_off(rt, design, chroma, cos, sin);
@@ -68,33 +74,35 @@ fn finish(rt: &impl Print, found: Job, cos: &[f32], sin: &[f32]) {
 
 // Searches a table, and writes what is found.
 fn search_in(rt: &impl Print, table: &[f32], settings: Settings, cos: &[f32], sin: &[f32]) {
-    let searched = job::search_in(rt, table, settings);
-    if searched.number != 0 {
-        show::refused(rt, searched.number);
-        return;
+    match job::search_in(rt, table, settings) {
+        Ok(last) => {
+            book::write(rt, last);
+            finish(rt, last, cos, sin);
+        }
+        Err(why) => {
+            let _ = println!(rt; "{}", Refused(why));
+        }
     }
-    let last = searched.job;
-    book::write(rt, last);
-    finish(rt, last, cos, sin);
 }
 
-// Fills the table by these directions, searches it, and writes what is found.
-fn run(rt: &impl Print, settings: Settings, cos: &[f32], sin: &[f32]) {
-    let mut entries = [0.0f32; 121680];
-    let filled = table::fill(&mut entries, cos, sin);
-    if show::filled(rt, filled) {
-        search_in(rt, &entries, settings, cos, sin);
+// Fills the table by the directions, searches it, and writes what is found.
+fn run(rt: &impl Print, asked: &Asked) {
+    let mut entries = [0.0; table::ENTRIES];
+    match table::fill(&mut entries, &asked.cos, &asked.sin) {
+        Ok(()) => {
+            let _ = println!(rt; "filled 169 levels of 720 hues");
+            search_in(rt, &entries, asked.settings, &asked.cos, &asked.sin);
+        }
+        Err(why) => {
+            let _ = println!(rt; "{}", Refused(why));
+        }
     }
 }
 
 // Reads what is asked, and runs where every line is as it should be and none is missing.
 fn main(rt: HostRuntime) {
-    let read = input::read(&rt);
-    if read.ready(&rt) {
-        let settings = read.settings;
-        let cos = read.cos;
-        let sin = read.sin;
-        show::asked(&rt, settings);
-        run(&rt, settings, &cos, &sin);
+    if let Some(asked) = input::read(&rt) {
+        show::asked(&rt, asked.settings);
+        run(&rt, &asked);
     }
 }

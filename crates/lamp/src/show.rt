@@ -1,161 +1,89 @@
-// The lines that say what is asked, what the search found and its limit, and what other lines are made of.
-use crate::{numbers, words};
+// The lines that say what is asked, what the search found and its limit.
+use crate::numbers::{Decimal, Halves, exact};
+use crate::words::Refused;
 use audit::Bound;
 use palette::Design;
 use placement_checks::Stepping;
 use search::Settings;
-
-// As many decimals as a fixed-point number can have, so that every one is written.
-pub const ALL: usize = 40;
-
-// Ends a line.
-pub fn end(rt: &impl Print) {
-    words::say(rt, b"\n");
-}
-
-// Writes a line of words and a float.
-pub fn float_line(rt: &impl Print, bytes: &[u8], x: f32) {
-    words::say(rt, bytes);
-    numbers::float(rt, x, ALL);
-    end(rt);
-}
-
-// Writes a line of words and a metric, rounded down to two decimals.
-pub fn metric_line(rt: &impl Print, bytes: &[u8], x: f32) {
-    words::say(rt, bytes);
-    numbers::float_or_none(rt, x, 2);
-    end(rt);
-}
-
-// Writes that a call was refused, by its number and why.
-pub fn refused(rt: &impl Print, number: u8) {
-    words::say(rt, b"refused,");
-    numbers::whole(rt, number as u64);
-    words::refusal(rt, number);
-}
+use std::fmt;
 
 // Writes what is asked.
 pub fn asked(rt: &impl Print, settings: Settings) {
-    words::say(rt, b"asked: hues ");
-    numbers::whole(rt, settings.k as u64);
-    float_line(rt, b", gap ", settings.gap);
+    let _ = println!(rt; "asked: hues {}, gap {}", settings.k, exact(settings.gap));
 }
 
-// Writes that the table is filled, or why it is not, and says whether it is.
-pub fn filled(rt: &impl Print, number: u8) -> bool {
-    if number != 0 {
-        refused(rt, number);
-        return false;
-    }
-    words::say(rt, b"filled 169 levels of 720 hues\n");
-    true
-}
-
-// Writes the lightness of a level.
-pub fn lightness(rt: &impl Print, level: usize) {
-    words::say(rt, b", lightness ");
-    numbers::halves(rt, std::num::wrapping_add_u64(level as u64, 24));
-}
-
-// Writes a hue in degrees, and ends the line.
-pub fn degrees(rt: &impl Print, hue: u16) {
-    words::say(rt, b", ");
-    numbers::halves(rt, hue as u64);
-    words::say(rt, b" degrees\n");
+// The lightness of a level.
+pub fn lightness(level: usize) -> Halves {
+    Halves((level as u64).wrapping_add(24))
 }
 
 // Writes a level.
-fn level_line(rt: &impl Print, bytes: &[u8], level: usize) {
-    words::say(rt, bytes);
-    numbers::whole(rt, level as u64);
-    lightness(rt, level);
-    end(rt);
+fn level_line(rt: &impl Print, which: &str, level: usize) {
+    let _ = println!(rt; "{which} level {level}, lightness {}", lightness(level));
 }
 
-// Writes a hue.
-fn hue_line(rt: &impl Print, hue: u16) {
-    words::say(rt, b"hue ");
-    numbers::whole(rt, hue as u64);
-    degrees(rt, hue);
-}
+// The hues that are meant, as words. One hue has no other that it could be apart from.
+#[derive(Clone, Copy)]
+struct Hues(usize);
 
-// Writes the first k hues.
-fn hue_lines(rt: &impl Print, k: usize, hues: [u16; 16]) {
-    let mut i = 0;
-    while i < 16 {
-        if i < k {
-            hue_line(rt, hues[i]);
+impl fmt::Display for Hues {
+    fn fmt<W: fmt::Write>(&self, f: &mut fmt::Formatter<W>) -> fmt::Result {
+        let k = self.0;
+        if k == 1 {
+            return write!(f, "single hue");
         }
-        i += 1;
+        match placement_checks::step_for(k) {
+            Stepping::Is(step) => {
+                let step = Halves(step as u64);
+                write!(f, "{k} hues at least {step} degrees apart")
+            }
+            Stepping::Refused(why) => write!(f, "{}", Refused(why)),
+        }
     }
 }
 
-// Writes the smallest gap of the hues round the circle, the closing one included: with one hue, the whole circle.
-fn gap_line(rt: &impl Print, positions: usize) {
-    words::say(rt, b"tightest gap ");
-    numbers::whole(rt, positions as u64);
-    words::say(rt, b" positions, ");
-    numbers::halves(rt, positions as u64);
-    words::say(rt, b" degrees\n");
-}
+// Which hues and levels are meant, as words: those that are asked.
+#[derive(Clone, Copy)]
+struct Those(Settings);
 
-// Writes how far apart the hues are that are meant, in half degrees.
-fn spacing(rt: &impl Print, step: Stepping) {
-    match step {
-        Stepping::Is(halves) => numbers::halves(rt, halves as u64),
-        Stepping::Refused(why) => refused(rt, why.number()),
+impl fmt::Display for Those {
+    fn fmt<W: fmt::Write>(&self, f: &mut fmt::Formatter<W>) -> fmt::Result {
+        let hues = Hues(self.0.k);
+        let apart = Decimal {
+            x: self.0.gap + 1.0,
+            most: 40,
+        };
+        write!(
+            f,
+            "in this table no {hues}, on two levels at least {apart} apart, can have a common chroma"
+        )
     }
 }
 
-// Writes the hues that are meant. One hue has no other that it could be apart from.
-fn hues_asked(rt: &impl Print, k: usize) {
-    if k == 1 {
-        words::say(rt, b"single hue");
-        return;
-    }
-    numbers::whole(rt, k as u64);
-    words::say(rt, b" hues at least ");
-    spacing(rt, placement_checks::step_for(k));
-    words::say(rt, b" degrees apart");
-}
-
-// Writes which hues and levels are meant: those that are asked.
-fn those_asked(rt: &impl Print, settings: Settings) {
-    words::say(rt, b": in this table no ");
-    hues_asked(rt, settings.k);
-    words::say(rt, b", on two levels at least ");
-    numbers::decimal(rt, settings.gap + 1.0, ALL);
-}
-
-// Writes the limit: what no hues that are asked exceed on levels that are asked (audit/proofs/Panel, `stepped_is_limit`).
-fn limit_line(rt: &impl Print, settings: Settings, most: f32) {
-    words::say(rt, b"limit");
-    those_asked(rt, settings);
-    float_line(rt, b" apart, can have a common chroma above ", most);
-}
-
-// Writes the limit beside a chroma that was found.
+// Writes the limit beside a chroma that was found: what no hues that are asked exceed on levels that are asked (audit/proofs/Panel,
+// `stepped_is_limit`).
 pub fn limit(rt: &impl Print, settings: Settings, chroma: f32) {
-    let bound = audit::bound_of(chroma);
-    match bound {
-        Bound::Next(most) => limit_line(rt, settings, most),
-        Bound::Refused(why) => refused(rt, why.number()),
-    }
+    let _ = match audit::bound_of(chroma) {
+        Bound::Next(most) => println!(rt; "limit: {} above {}", Those(settings), exact(most)),
+        Bound::Refused(why) => println!(rt; "{}", Refused(why)),
+    };
 }
 
 // Writes that no hues that are asked reach 35 on levels that are asked, by the same theorem.
 pub fn none(rt: &impl Print, settings: Settings) {
-    words::say(rt, b"none");
-    those_asked(rt, settings);
-    words::say(rt, b" apart, can have a common chroma of 35 or more\n");
+    let _ = println!(rt; "none: {} of 35 or more", Those(settings));
 }
 
-// Writes what a search found.
+// Writes what a search found. The smallest gap of the hues is that round the circle, the closing one included: with one hue, the whole
+// circle.
 pub fn found(rt: &impl Print, design: Design, tightest: usize, chroma: f32) {
-    let hues = design.hues;
-    level_line(rt, b"dark level ", design.dark);
-    level_line(rt, b"light level ", design.light);
-    hue_lines(rt, design.k, hues);
-    gap_line(rt, tightest);
-    float_line(rt, b"chroma ", chroma);
+    level_line(rt, "dark", design.dark);
+    level_line(rt, "light", design.light);
+    for hue in design.hues.iter().take(design.k) {
+        let degrees = Halves(u64::from(*hue));
+        let _ = println!(rt; "hue {hue}, {degrees} degrees");
+    }
+    let degrees = Halves(tightest as u64);
+    let _ = println!(rt; "tightest gap {tightest} positions, {degrees} degrees");
+    let _ = println!(rt; "chroma {}", exact(chroma));
 }

@@ -1,5 +1,5 @@
 -- What the private functions of this crate ask and promise among themselves. Nothing here is a promise to a caller. Definitions only.
-use Rattle.std.specs.Prelude.{◌≡◌, List, ℕ, ◌*◌, ◌≤◌, ◌<◌, Float, length}
+use Rattle.std.specs.Prelude.{◌≡◌, List, ℕ, ◌*◌, ◌≤◌, ◌<◌, Float, length, Option, Some, None}
 use Rattle.limits.specs.Each.{Each, F32}
 use Rattle.gamut.specs.Table.{levels_in}
 use Rattle.search_rules.proofs.Rows.{Good}
@@ -7,12 +7,11 @@ use Rattle.orientation_rules.specs.Orientation.{Best, none, found, over_light}
 use Rattle.orientation_rules.specs.Fixed.{OrientationTaken}
 use Rattle.orientation_rules.proofs.Skipping.{Reached}
 use Rattle.orientation.specs.declared.Kept.{Kept}
-use Rattle.orientation.specs.declared.Kept.TheVariants.{Nothing, Found}
 
 -- the best so far
-abbrev pub best_of : Kept → Best
-best_of Nothing = none
-best_of (Found c d l p) = found c d l p
+abbrev pub best_of : Option Kept → Best
+best_of None = none
+best_of (Some k) = found k.chroma k.dark k.light k.partner
 
 -- two levels of a table and a hue
 pub record There (t : List Float) (dark light hue : ℕ) : Type 0 where

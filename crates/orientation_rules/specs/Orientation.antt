@@ -1,17 +1,16 @@
 -- Document 02, Req 01: "Port `best_at_orientation` for a hue index in place of the angle: k is 2, the partner lies 301 to 419 positions on." What the call says for every gap,
 -- table and hue, by the Rust's own three loops: over the dark levels, within it over the light levels, within it over the partners. What that means stands in specs/Fixed.
 -- Definitions only.
-use Rattle.std.specs.Prelude.{ℕ, ◌+◌, ◌%◌, ◌≡◌, Bool, cond, List, [], ◌∷◌, leb, Float, get_or, replicate}
+use Rattle.std.specs.Prelude.{ℕ, ◌+◌, ◌%◌, ◌≡◌, Bool, cond, List, [], ◌∷◌, leb, Float, get_or, replicate, Option, Some, None, Result, Ok, Err}
 use Rattle.std.specs.Float.Ieee.{lt, le}
 use Rattle.limits.specs.Answers.{Said, value, refused}
 use Rattle.limits.specs.Refusals.{number}
 use Rattle.limits.specs.Taken.{f32_of, gap_taken}
+use Rattle.limits.specs.declared.Refusal.{Refusal}
 use Rattle.gamut.specs.Table.{levels_in, table_checked}
 use Rattle.search_rules.specs.Job.{far_enough}
 use Rattle.search_rules.specs.Runs.{common_of}
 use Rattle.search_rules.specs.Loops.{loop}
-use Rattle.orientation_rules.specs.declared.Answer.{Answer}
-use Rattle.orientation_rules.specs.declared.Answer.TheVariants.{Found, Nothing, Refused}
 use Rattle.orientation_rules.specs.declared.Oriented.{Oriented}
 
 -- none, or a chroma with the dark level, the light level and the partner of the fixed hue
@@ -70,13 +69,19 @@ hues_beside hue (value none) = replicate 16 0
 hues_beside hue (value (found c d l partner)) = hue ∷ partner ∷ replicate 14 0
 hues_beside hue (refused n) = replicate 16 0
 
--- what an answer hands back, with the hues that stand beside it, of which the second is the partner
-abbrev pub answers : Answer → List ℕ → Said Best
-answers (Found c d l) hues = value (found c d l (get_or hues 1 0))
-answers Nothing hues = value none
-answers (Refused w) hues = refused (number w)
+-- what an answer says: of its hues the second is the partner
+abbrev pub oriented_said : Result (Option Oriented) Refusal → Said Best
+oriented_said (Ok (Some o)) = value (found o.chroma o.dark o.light (get_or o.hues 1 0))
+oriented_said (Ok None) = value none
+oriented_said (Err w) = refused (number w)
 
--- an answer with its hues says this, for the hue that was fixed
-pub record Gives (r : Oriented) (hue : ℕ) (said : Said Best) : Type 0 where
-  pub says : answers r.answer r.hues ≡ said
-  pub beside : r.hues ≡ hues_beside hue said
+-- the hues that an answer has, and zeros where it has none
+abbrev pub oriented_hues : Result (Option Oriented) Refusal → List ℕ
+oriented_hues (Ok (Some o)) = o.hues
+oriented_hues (Ok None) = replicate 16 0
+oriented_hues (Err w) = replicate 16 0
+
+-- an answer says this, for the hue that was fixed
+pub record Gives (r : Result (Option Oriented) Refusal) (hue : ℕ) (said : Said Best) : Type 0 where
+  pub says : oriented_said r ≡ said
+  pub beside : oriented_hues r ≡ hues_beside hue said

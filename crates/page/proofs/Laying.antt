@@ -41,13 +41,6 @@ puts_found k dark light c hues p q u =
     let second = row chroma_word (hundredths c) ∷ row rest_word (remainder c) ∷ [] in
     puts_rows (first ++ second) (hue_rows (take k hues)) (puts_rows first second p q) u
 
--- the page of a best that is known to be another
-pub puts_best : {a b : List ℕ} {r : ℕ} (k : ℕ) (best other : Best) (hues : List ℕ) → best ≡ other → PutIn a 0 (lines_of (rows_with k other hues)) b r → PutIn a 0 (lines_of (rows_with k best hues)) b r
-puts_best k best other hues e p = rw e p
-
-pub within_is : (best other : Best) → best ≡ other → ChromaWithin best → ChromaWithin other
-within_is best other e w = subst ChromaWithin e w
-
 -- ---- what is known of a record that is not broken
 module _ (j : Job) (u : unbroken j ≡ true) where
   pub within : ChromaWithin j.best

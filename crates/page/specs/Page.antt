@@ -1,15 +1,12 @@
 -- Document 02, Req 06: the page of a job for the service book, and what laying it out says and leaves in a lent buffer. Bytes are ASCII. Definitions only.
 use Rattle.std.specs.Prelude.{cond, List, [], ◌∷◌, map, ℕ, ◌+◌, ◌*◌, leb, length, take}
 use Rattle.limits.specs.Answers.{Said, value, refused}
-use Rattle.limits.specs.Refusals.{number}
 use Rattle.search_rules.specs.declared.Best.{Best}
 use Rattle.search_rules.specs.declared.Best.TheVariants.{None, Found}
 use Rattle.search_rules.specs.declared.Job.{Job}
 use Rattle.search_rules.specs.Job.{unbroken}
 use Rattle.text.specs.Put.{over}
 use Rattle.page_lines.specs.Lines.{Row, row, lines_of}
-use Rattle.page.specs.declared.Laid.{Laid}
-use Rattle.page.specs.declared.Laid.TheVariants.{Bytes, Refused}
 use Rattle.page.specs.Chroma.{hundredths, remainder}
 
 -- ---- the words
@@ -78,8 +75,3 @@ page_by (refused n) j before = before
 -- the buffer after the call
 unfoldable pub page_after : Job → List ℕ → List ℕ
 page_after j before = page_by (page_says j (length before)) j before
-
--- what an answer says
-abbrev pub laid_said : Laid → Said ℕ
-laid_said (Bytes n) = value n
-laid_said (Refused w) = refused (number w)

@@ -3,24 +3,16 @@
 #![tactic(auto)]
 
 ghost use Rattle.std.specs.Prelude.{◌≡◌, [], ◌∷◌, ◌*◌, ◌≤◌, length, take};
+ghost use Rattle.limits.specs.Refusals.{said};
 ghost use Rattle.search_rules.specs.declared.Best.TheVariants.{Found};
 ghost use Rattle.text.specs.Put.{PutIn};
 ghost use Rattle.page.specs.Chroma.{units_of, hundredths, remainder};
 ghost use Rattle.page_lines.specs.Lines.{row, line_of, lines_of};
-ghost use Rattle.page.specs.Page.{hues_word, dark_word, light_word, chroma_word, rest_word, hue_word, none_word, hue_rows, rows_with, bytes_with, page_says, page_after, laid_said};
+ghost use Rattle.page.specs.Page.{hues_word, dark_word, light_word, chroma_word, rest_word, hue_word, none_word, hue_rows, rows_with, bytes_with, page_says, page_after};
 ghost use Rattle.page.specs.Inner.{InRange, ChromaWithin};
 
 use limits::Refusal;
 use search_rules::{Best, Job};
-
-// What comes of laying a job out.
-#[derive(Clone, Copy)]
-pub enum Laid {
-    // the page stands from byte 0 on; it has so many bytes
-    Bytes(usize),
-    // the buffer is as it was
-    Refused(Refusal),
-}
 
 // How many bytes a line has, its newline among them.
 const LINE: usize = 41;
@@ -48,7 +40,7 @@ fn hundredfold(c: f32) -> u64
     requires { InRange c }
     ensures { result ≡ 100 * units_of c }
 {
-    let bits = f32::to_bits(c);
+    let bits = c.to_bits();
     let digits = (bits % 0x80_0000 + 0x80_0000) as u64;
     if bits < 0x4280_0000 {
         return 100 * digits;
@@ -82,10 +74,8 @@ fn put_hues(page: &mut [u8], at: usize, hues: [u16; 16], k: usize) -> usize
     ensures { PutIn page.old at (lines_of (hue_rows (take k hues))) page.new result }
 {
     let mut to = at;
-    let mut i = 0;
-    while i < k {
-        to = put_hue(page, to, hues[i]);
-        i += 1;
+    for &hue in &hues[..k] {
+        to = put_hue(page, to, hue);
     }
     to
 }
@@ -124,7 +114,7 @@ fn bytes_with(k: usize, best: Best) -> usize
 {
     match best {
         Best::None => LINE * 2,
-        Best::Found(_, _, _) => LINE * (5 + k),
+        Best::Found(..) => LINE * (5 + k),
     }
 }
 
@@ -142,17 +132,16 @@ fn put_page(page: &mut [u8], k: usize, best: Best, hues: [u16; 16]) -> usize
 // Lays a job out over the front of a buffer, finished or not: its hue count, its two level indices, its chroma in hundredths with
 // what is left of it, and its hues; or its hue count and that there is none so far. It gives the number of bytes written, or
 // refuses a broken record and a buffer that is too short, which is then as it was.
-pub fn lay_out(job: Job, page: &mut [u8]) -> Laid
-    ensures { (laid_said result ≡ page_says job (length page.old)) × (page.new ≡ page_after job page.old) }
+#[tactic(auto, using(crate::proofs::Laying::within, crate::proofs::Rows::few))]
+pub fn lay_out(job: Job, page: &mut [u8]) -> Result<usize, Refusal>
+    ensures { (said result ≡ page_says job (length page.old)) × (page.new ≡ page_after job page.old) }
 {
     if !search_checks::is_unbroken(job) {
-        return Laid::Refused(Refusal::Broken);
+        return Err(Refusal::Broken);
     }
     let k = job.settings.k;
-    let best = job.best;
-    let hues = job.hues;
-    if page.len() < bytes_with(k, best) {
-        return Laid::Refused(Refusal::TextBuffer);
+    if page.len() < bytes_with(k, job.best) {
+        return Err(Refusal::TextBuffer);
     }
-    Laid::Bytes(put_page(page, k, best, hues))
+    Ok(put_page(page, k, job.best, job.hues))
 }

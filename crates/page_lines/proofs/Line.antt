@@ -13,21 +13,21 @@ use Rattle.text.proofs.Numeral.{digits_more, digits_last, numeral_most, lower}
 use Rattle.page_lines.specs.Lines.{row, padded, aligned, line_with, line_of}
 
 -- ---- a number, from its last digit on
--- a line in which the last digits of n stand, up to a place, and what is left of n
+-- a line in which the last digits of n stand, from a place on, and what is left of n
 pub record Writing (line : List ℕ) (n : ℕ) (to : List ℕ) (rest at : ℕ) : Type 0 where
   -- the digits that stand
   so : List ℕ
   -- how many more there may be
   left : ℕ
   some : 1 ≤ left
-  place : at ≡ 19 + left
+  place : at ≡ 20 + left
   count : left + length so ≡ 20
   few : rest < 10 ^ left
   digits : digits_before (10 + left) (ltb rest 10) rest so ≡ numeral n
-  pub holds : to ≡ take (at + 1) line ++ (so ++ drop 40 line)
+  pub holds : to ≡ take at line ++ (so ++ drop 40 line)
 
 module _ (line : List ℕ) (n : ℕ) (long : length line ≡ 41) where
-  pub writing_begins : n < 10 ^ 20 → Writing line n line n 39
+  pub writing_begins : n < 10 ^ 20 → Writing line n line n 40
   unfolding numeral
   writing_begins h =
       record {
@@ -52,20 +52,26 @@ module _ (line : List ℕ) (n : ℕ) (long : length line ≡ 41) where
       ∙ set_at (take at line) (get_or line at 0) rest d at (length-take-le at line (omega arith))
 
   module _ {to : List ℕ} {rest at : ℕ} (w : Writing line n to rest at) where
-    -- it lies after the word
-    pub writing_at : (20 ≤ at) × (at ≤ 39)
-    writing_at = let a = w.place in let b = w.some in let c = w.count in (omega arith, omega arith)
+    -- the digit before those that stand
+    put_before : (d : ℕ) → set to (at - 1) d ≡ take (at - 1) line ++ ((d ∷ w.so) ++ drop 40 line)
+    put_before d =
+        let a = w.place in
+        let b = w.some in
+        let c = w.count in
+        let e : at ≡ at - 1 + 1 = omega arith in
+        ap (λ (x : List ℕ). set x (at - 1) d) w.holds
+        ∙ ap (λ (k : ℕ). set (take k line ++ (w.so ++ drop 40 line)) (at - 1) d) e
+        ∙ put_digit (at - 1) d (w.so ++ drop 40 line) (omega arith)
 
-    pub writing_goes : (d : ℕ) → 10 ≤ rest → d ≡ 48 + rest % 10 → Writing line n (set to at d) (rest / 10) (at - 1)
+    pub writing_goes : (d : ℕ) → (rest / 10 ≡ 0 → ⊥) → d ≡ 48 + rest % 10 → Writing line n (set to (at - 1) d) (rest / 10) (at - 1)
     writing_goes d h e = go w.left w.some w.place w.count w.few w.digits
       where
-        go : (left : ℕ) → 1 ≤ left → at ≡ 19 + left → left + length w.so ≡ 20 → rest < 10 ^ left → digits_before (10 + left) (ltb rest 10) rest w.so ≡ numeral n
-            → Writing line n (set to at d) (rest / 10) (at - 1)
+        go : (left : ℕ) → 1 ≤ left → at ≡ 20 + left → left + length w.so ≡ 20 → rest < 10 ^ left → digits_before (10 + left) (ltb rest 10) rest w.so ≡ numeral n
+            → Writing line n (set to (at - 1) d) (rest / 10) (at - 1)
         go zero s p c f g = absurd (omega arith)
         go (suc zero) s p c f g = absurd (omega arith)
         go (suc (suc l)) s p c f g =
             let m : suc (10 + suc l) ≡ 10 + suc (suc l) = omega arith in
-            let b : at ≡ at - 1 + 1 = omega arith in
             record {
               so = d ∷ w.so;
               left = suc l;
@@ -74,24 +80,29 @@ module _ (line : List ℕ) (n : ℕ) (long : length line ≡ 41) where
               count = omega arith;
               few = lower (suc l) rest f;
               digits = ap (λ (x : ℕ). digits_before (10 + suc l) (ltb (rest / 10) 10) (rest / 10) (x ∷ w.so)) e
-                  ∙ digits_more (10 + suc l) rest w.so h
+                  ∙ digits_more (10 + suc l) rest w.so (omega arith)
                   ∙ ap (λ (k : ℕ). digits_before k (ltb rest 10) rest w.so) m
                   ∙ g;
-              holds = ap (λ (x : List ℕ). set x at d) w.holds ∙ put_digit at d (w.so ++ drop 40 line) (omega arith) ∙ ap (λ (k : ℕ). take k line ++ d ∷ (w.so ++ drop 40 line)) b;
+              holds = put_before d;
             }
 
-    pub writing_ends : (d : ℕ) → rest < 10 → d ≡ 48 + rest → set to at d ≡ take (40 - length (numeral n)) line ++ (numeral n ++ drop 40 line)
+    pub writing_ends : (d : ℕ) → rest / 10 ≡ 0 → d ≡ 48 + rest % 10 → set to (at - 1) d ≡ take (40 - length (numeral n)) line ++ (numeral n ++ drop 40 line)
     writing_ends d h e =
         let a = w.place in
         let b = w.some in
         let c = w.count in
+        let u : rest < 10 = omega arith in
         let m : suc (9 + w.left) ≡ 10 + w.left = omega arith in
-        let z : d ∷ w.so ≡ numeral n = ap (λ (x : ℕ). x ∷ w.so) e ∙ digits_last (9 + w.left) rest w.so h ∙ ap (λ (k : ℕ). digits_before k (ltb rest 10) rest w.so) m ∙ w.digits in
-        let l : at ≡ 40 - length (d ∷ w.so) = omega arith in
-        ap (λ (x : List ℕ). set x at d) w.holds
-        ∙ put_digit at d (w.so ++ drop 40 line) (omega arith)
+        let f : d ≡ 48 + rest = omega arith in
+        let z : d ∷ w.so ≡ numeral n = ap (λ (x : ℕ). x ∷ w.so) f ∙ digits_last (9 + w.left) rest w.so u ∙ ap (λ (k : ℕ). digits_before k (ltb rest 10) rest w.so) m ∙ w.digits in
+        let l : at - 1 ≡ 40 - length (d ∷ w.so) = omega arith in
+        put_before d
         ∙ ap (λ (k : ℕ). take k line ++ ((d ∷ w.so) ++ drop 40 line)) l
         ∙ ap (λ (x : List ℕ). take (40 - length x) line ++ (x ++ drop 40 line)) z
+
+    -- a place is left for a digit that is left
+    pub writing_left : at ≤ 20 → ⊥
+    writing_left h = let a = w.place in let b = w.some in omega arith
 
 -- ---- a line
 -- so many spaces

@@ -13,13 +13,13 @@ fn numbered(line: [u8; 41], n: usize) -> [u8; 41]
 {
     let mut to = line;
     let mut rest = n;
-    let mut at: usize = 39;
-    while rest >= 10 {
+    for at in (20..40).rev() {
         to[at] = b'0' + (rest % 10) as u8;
-        rest = rest / 10;
-        at -= 1;
+        rest /= 10;
+        if rest == 0 {
+            break;
+        }
     }
-    to[at] = b'0' + rest as u8;
     to
 }
 
@@ -38,6 +38,5 @@ fn line_of(word: [u8; 10], n: usize) -> [u8; 41]
 pub fn put_row(page: &mut [u8], at: usize, word: [u8; 10], n: usize) -> usize
     ensures { PutIn page.old at (line_with word n) page.new result }
 {
-    let line = line_of(word, n);
-    text::put_bytes(page, at, &line)
+    text::put_bytes(page, at, &line_of(word, n))
 }

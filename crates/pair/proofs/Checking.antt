@@ -10,13 +10,10 @@ use lib.Ieee.{Float}
 use lib.ListN.{length}
 use borrow.Author.Tests.{leb-true, eqb-true, eq-eqb, ne_eqb}
 use Rattle.limits.specs.Answers.{Said, value, refused, fail, pass}
-use Rattle.limits.specs.Refusals.{number, check_said}
-use Rattle.limits.specs.declared.Refusal.{Refusal}
 use Rattle.limits.specs.Taken.{hue_count_taken, chroma_taken, entry_taken, every}
 use Rattle.limits.proofs.HueCount.{both}
-use Rattle.limits.proofs.Checks.{Check, fine, wrong}
-use Rattle.limits.specs.declared.Checked.{Checked}
-use Rattle.limits.specs.declared.Checked.TheVariants.{Fine, Wrong}
+use Rattle.limits.proofs.Checks.{Check, all_pass, failing}
+use Rattle.limits.proofs.Checks as through
 use Rattle.placement_rules.specs.Placing.{work_needed, checked}
 use Rattle.placement_rules.proofs.Checking.{checks, ring_passes}
 use Rattle.placement_rules.proofs.Room.{enough}
@@ -26,20 +23,17 @@ use Rattle.pair_rules.proofs.Rows.{least_long, least_of_one, least_taken}
 
 -- ---- any number of rows
 module _ (k step : ℕ) (floor : Float) (rows : List (List Float)) (room : ℕ) where
-  pub passed : (r : Checked) → r ≡ Fine → check_said r ≡ rows_checked k step floor rows room pass → rows_checked k step floor rows room pass ≡ pass
-  passed r f h = sym h ∙ ap check_said f
-
   abbrev rows_checks : List Check
   rows_checks = checks k step floor (ring_length rows) (lengths_taken rows) (entries_taken rows) room
 
   -- a call whose check is passed, and one whose check is failed
-  pub passing : (r : Checked) → r ≡ Fine → check_said r ≡ rows_checked k step floor rows room pass → rows_say k step floor rows room ≡ value (best_over k step floor (least_row rows))
+  pub passing : rows_checked k step floor rows room pass ≡ pass → rows_say k step floor rows room ≡ value (best_over k step floor (least_row rows))
   unfolding rows_say rows_checked
-  passing r f h = fine rows_checks r h (value (best_over k step floor (least_row rows))) f
+  passing h = through.said rows_checks (value (best_over k step floor (least_row rows))) (all_pass rows_checks pass tt h).0
 
-  pub refusing : (r : Checked) (w : Refusal) → r ≡ Wrong w → check_said r ≡ rows_checked k step floor rows room pass → rows_say k step floor rows room ≡ refused (number w)
+  pub refusing : (n : ℕ) → rows_checked k step floor rows room pass ≡ refused n → rows_say k step floor rows room ≡ refused n
   unfolding rows_say rows_checked
-  refusing r w f h = wrong rows_checks r h (value (best_over k step floor (least_row rows))) w f
+  refusing n h = failing rows_checks (value (best_over k step floor (least_row rows))) tt n h
 
   -- rows that are taken are no longer than 720, and placement takes their row of least values
   pub short : rows_checked k step floor rows room pass ≡ pass → (alike (ring_length rows) rows ≡ true) × (ring_length rows ≤ 720)
@@ -64,12 +58,12 @@ pub one_checked : {A : Type 0} (k step : ℕ) (floor : Float) (row : List Float)
 unfolding checked rows_checked lengths_taken alike entries_taken
 one_checked k step floor row room x = sym (rw (eq-eqb (length row) (length row) refl, and-true (every entry_taken row)))
 
-module _ (k step : ℕ) (floor : Float) (row : List Float) (room : ℕ) (r : Checked) (says : check_said r ≡ checked k step floor row room pass) where
-  pub one_refusing : (w : Refusal) → r ≡ Wrong w → rows_say k step floor (row ∷ []) room ≡ refused (number w)
-  one_refusing w f = refusing k step floor (row ∷ []) room r w f (says ∙ one_checked k step floor row room pass)
+module _ (k step : ℕ) (floor : Float) (row : List Float) (room : ℕ) where
+  pub one_refusing : (n : ℕ) → checked k step floor row room pass ≡ refused n → rows_say k step floor (row ∷ []) room ≡ refused n
+  one_refusing n h = refusing k step floor (row ∷ []) room n (sym (one_checked k step floor row room pass) ∙ h)
 
-  pub one_passing : r ≡ Fine → rows_say k step floor (row ∷ []) room ≡ value (best_over k step floor row)
-  one_passing f = passing k step floor (row ∷ []) room r f (says ∙ one_checked k step floor row room pass) ∙ ap (λ (x : List Float). value (best_over k step floor x)) (least_of_one row)
+  pub one_passing : checked k step floor row room pass ≡ pass → rows_say k step floor (row ∷ []) room ≡ value (best_over k step floor row)
+  one_passing h = passing k step floor (row ∷ []) room (sym (one_checked k step floor row room pass) ∙ h) ∙ ap (λ (x : List Float). value (best_over k step floor x)) (least_of_one row)
 
 -- ---- two rows
 -- six checks with the entries of two rows, by those of each row
@@ -98,26 +92,26 @@ module _ (k step : ℕ) (floor : Float) (a b : List Float) (room : ℕ) where
   both_rows = rows_checked k step floor (a ∷ b ∷ []) room pass
 
   -- rows of unequal length are refused as a row without entries is
-  pub unequal : (r : Checked) (none : List Float) → (length a ≡ length b → ⊥) → length none ≡ 0 → check_said r ≡ checked k step floor none room pass → check_said r ≡ both_rows
+  pub unequal : (length a ≡ length b → ⊥) → checked k step floor [] room pass ≡ both_rows
   unfolding rows_checked lengths_taken alike checked
-  unequal r none f e h = h ∙ rw (e, eq-eqb (length a) (length a) refl, ne_eqb (length b) (length a) (λ (h : length b ≡ length a). f (sym h)))
+  unequal f = rw (eq-eqb (length a) (length a) refl, ne_eqb (length b) (length a) (λ (h : length b ≡ length a). f (sym h)))
 
-  module _ (same : length a ≡ length b) (r : Checked) (second : check_said r ≡ checked k step floor b 720 pass) where
+  module _ (same : length a ≡ length b) where
     -- what the second row is refused by, with room for any ring that is taken, both are
-    pub second_refused : (w : Refusal) → r ≡ Wrong w → refused (number w) ≡ both_rows
+    pub second_refused : (n : ℕ) → checked k step floor b 720 pass ≡ refused n → both_rows ≡ refused n
     unfolding rows_checked lengths_taken alike entries_taken checked
-    second_refused w f =
+    second_refused w h =
         let n = length b in
         let o = leb 1 n && leb n 720 in
-        sym (rw (same, eq-eqb n n refl) (second_fails (hue_count_taken k) (chroma_taken floor) o (leb 1 step && leb step n) (every entry_taken a) (every entry_taken b) (leb (work_needed n) room) (leb (work_needed n) 720) (number w) (few n) (sym second ∙ ap check_said f)))
+        rw (same, eq-eqb n n refl) (second_fails (hue_count_taken k) (chroma_taken floor) o (leb 1 step && leb step n) (every entry_taken a) (every entry_taken b) (leb (work_needed n) room) (leb (work_needed n) 720) w (few n) h)
 
     -- where it is not, both are refused by what the first is
-    pub first_says : (first : Checked) → r ≡ Fine → check_said first ≡ checked k step floor a room pass → check_said first ≡ both_rows
+    pub first_says : checked k step floor b 720 pass ≡ pass → checked k step floor a room pass ≡ both_rows
     unfolding rows_checked lengths_taken alike entries_taken checked
-    first_says first f h =
+    first_says h =
         let n = length b in
-        let t = ring_passes k step floor n (leb 1 n && leb n 720) (every entry_taken b) 720 (sym second ∙ ap check_said f) in
-        h ∙ rw (same, eq-eqb n n refl, first_left (every entry_taken a) (every entry_taken b) t.4)
+        let t = ring_passes k step floor n (leb 1 n && leb n 720) (every entry_taken b) 720 h in
+        rw (same, eq-eqb n n refl, first_left (every entry_taken a) (every entry_taken b) t.4)
 
 -- two rows that are alike are of one length
 pub two_alike : (a b : List Float) → alike (length a) (a ∷ b ∷ []) ≡ true → length b ≡ length a

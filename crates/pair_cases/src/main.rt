@@ -5,54 +5,27 @@
 mod best;
 mod rows;
 
-use case_lines::words::word_at;
-use case_lines::{Reader, answers};
+use case_lines::entries::Row;
 use cases::Line;
-use rows::Rows;
 
-// best k step floor room = number found chroma tightest h .. hi lo: `best_for_levels` with a work buffer of this length: the number of
-// its refusal or 0, whether something is found, the chroma or 0, the tightest gap and sixteen hues, and after a refusal the digest
-// of the work buffer
-const BEST: u64 = 0x6265_7374;
-
-// The rows with one of them as a line sets it, if it can be set so.
-fn set(rt: &impl Print, line: Line, rows: Rows) -> Rows {
-    let operation = line.operation;
-    let words = line.words;
-    let count = line.count;
-    let which = word_at(words, 0);
-    let row = rows.at(which);
-    if which < 2 && rows::takes(operation, words, count, row) {
-        return rows.replaced(which, rows::set(operation, words, count, row));
-    }
-    answers::malformed(rt);
-    rows
-}
-
-// The rows after a line, which is answered if it is a case.
-fn take_line(rt: &impl Print, line: Line, rows: Rows) -> Rows {
-    if line.operation != BEST {
-        return set(rt, line, rows);
-    }
-    if line.count == 4 {
-        best::answer(rt, line, rows.at(0), rows.at(1));
-        return rows;
-    }
-    answers::malformed(rt);
-    rows
-}
-
-// Reads the list to its end. A proved loop ends, so it counts turns down.
-fn main(rt: HostRuntime) {
-    let mut input = rt.reader();
-    let mut reader = Reader::new();
-    let mut rows = Rows::new();
-    let mut turns = case_lines::TURNS;
-    while turns > 0 && reader.more {
-        reader = reader.read_on(&rt, &mut input);
-        if reader.case {
-            rows = take_line(&rt, reader.line, rows);
+// Takes a line, which is answered if it is a case.
+fn take_line(rt: &impl Print, line: &Line, rows: &mut [Row; 2]) -> Option<()> {
+    match (line.operation(), line.words()) {
+        // best k step floor room = number found chroma tightest h .. hi lo: `best_for_levels` with a work buffer of this length: the
+        // number of its refusal or 0, whether something is found, the chroma or 0, the tightest gap and sixteen hues, and after a
+        // refusal the digest of the work buffer
+        (b"best", [k, step, floor, room]) => {
+            let words = [*k, *step, *floor, *room];
+            let answer = best::best(line.number, rows[0].entries(), rows[1].entries(), words)?;
+            answer.write(rt, line);
+            Some(())
         }
-        turns -= 1;
+        _ => rows::take_line(line, rows),
     }
+}
+
+// Answers the list.
+fn main(rt: HostRuntime) {
+    let mut rows = [Row::new(); 2];
+    case_lines::each_case(&rt, |line| take_line(&rt, line, &mut rows));
 }

@@ -9,7 +9,7 @@ use Rattle.placement_rules.specs.Ring.{earliest, onward, from_start, first_from,
 use Rattle.placement_rules.specs.Placing.{allowed_at, step_for, step_says, stores, work_needed, checked, placement_says}
 use Rattle.pair_rules.specs.Rows.{lesser, greater, least, value_at, each, least_row, largest_from, largest}
 use Rattle.pair_rules.specs.Pair.{placed_at, placeable, best_over, alike, lengths_taken, entries_taken, rows_checked, rows_say}
-use Rattle.pair_rules.specs.Marked.{Marked, Agrees, P1, P2, marked, All}
+use Rattle.pair_rules.specs.Marked.{Agrees, P1, P2, marked, All}
 
 -- the hues that P1 and P2 come with
 abbrev two_hues : List ℕ

@@ -1,11 +1,14 @@
 -- Req 07: the hues beside the best over a row were placed on it, so their smallest gap means what a placement's does (`best_least`). Assumes nothing.
-use mathlib.Core.Path.{◌≡◌, sym, ap, ◌∙◌, subst}
+use mathlib.Core.Path.{◌≡◌, refl, sym, subst}
 use mathlib.Core.Bool.{true}
 use mathlib.Core.List.{List}
 use Prim.Native.Nat.{ℕ, ◌≤◌}
 use lib.Ieee.{Float}
 use lib.ListN.{length, take}
-use Rattle.limits.specs.Answers.{Said}
+use Rattle.std.specs.Prelude.{Option, Result, Err}
+use Rattle.limits.specs.Answers.{Said, refused}
+use Rattle.limits.specs.Refusals.{number}
+use Rattle.limits.specs.declared.Refusal.{Refusal}
 use Rattle.placement_rules.specs.Gaps.{tightest, Least}
 use Rattle.placement_rules.specs.Placing.{allowed_at}
 use Rattle.placement_rules.proofs.Stored.{first_of}
@@ -16,8 +19,12 @@ use Rattle.pair_rules.specs.Pair.{Best, found, placed_at, best_over, Gives}
 use Rattle.pair_rules.proofs.Promise.{last, found_is}
 
 -- what is handed back, over rings of one length and answers that are one
-pub gives_same : {k n m : ℕ} {r : Chosen} {x y : Said Best} → n ≡ m → x ≡ y → Gives n k r x → Gives m k r y
+pub gives_same : {k n m : ℕ} {r : Result (Option Chosen) Refusal} {x y : Said Best} → n ≡ m → x ≡ y → Gives n k r x → Gives m k r y
 gives_same {k} {m} {r} {x} long e g = subst (Gives m k r) e (subst (λ (n : ℕ). Gives n k r x) long g)
+
+-- what is handed back where a call is refused
+pub gives_refused : {n k : ℕ} {w : Refusal} {s : Said Best} → s ≡ refused (number w) → Gives n k (Err w) s
+gives_refused {n} {k} {w} e = subst (Gives n k (Err w)) (sym e) (record { says = refl; tightest_is = refl })
 
 pub best_least : (k step : ℕ) (floor : Float) (row : List Float) → 1 ≤ k → k ≤ 16 → 1 ≤ step → step ≤ length row → (c : Float) (hues : List ℕ) → best_over k step floor row ≡ found c hues
     → Least (λ i. true) (length row) k step (tightest (length row) (take k hues)) (take k hues)

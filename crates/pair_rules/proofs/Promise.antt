@@ -13,7 +13,7 @@ use lib.Ieee.{Float, binary32, to_bits, lt, le}
 use lib.Ieee.Exact.{HasValue}
 use lib.ListN.{length, get_or, take, replicate}
 use borrow.Author.Tests.{leb-true}
-use Rattle.limits.specs.Answers.{Said, value}
+use Rattle.limits.specs.Answers.{value}
 use Rattle.limits.specs.Taken.{f32_of, up_to, chroma_taken}
 use Rattle.limits.proofs.Floats.{never}
 use Rattle.limits.proofs.HueCount.{both, hue_count}

@@ -1,17 +1,16 @@
 -- Document 01, "One pair", as a call: "If the largest is below the floor, or placement fails at the floor, the answer is none. Otherwise lo = floor, hi = largest, then
 -- 30 halvings: mid = 0.5 × (lo + hi), each operation rounded once; placement at mid moves lo, else hi. The answer is the last chroma placed, with its hues."
 -- The last chroma placed is where lo stands at the end. Definitions only.
-use Rattle.std.specs.Prelude.{◌≡◌, ℕ, Bool, true, false, ◌&&◌, cond, List, [], ◌∷◌, leb, eqb, Float, length, take, replicate}
+use Rattle.std.specs.Prelude.{◌≡◌, ℕ, Bool, true, false, ◌&&◌, cond, List, [], ◌∷◌, leb, eqb, Float, length, take, replicate, Option, Some, None, Result, Ok, Err}
 use Rattle.std.specs.Float.Ieee.{lt}
 use Rattle.limits.specs.Answers.{Said, value, refused}
 use Rattle.limits.specs.Refusals.{number}
+use Rattle.limits.specs.declared.Refusal.{Refusal}
 use Rattle.limits.specs.Taken.{entry_taken, every}
 use Rattle.halving.specs.Midpoint.{halve}
 use Rattle.placement_rules.specs.Ring.{Places, nowhere, placed, placement}
 use Rattle.placement_rules.specs.Gaps.{tightest}
 use Rattle.placement_rules.specs.Placing.{allowed_at, sixteen, checked_ring}
-use Rattle.pair_rules.specs.declared.Answer.{Answer}
-use Rattle.pair_rules.specs.declared.Answer.TheVariants.{Found, Nothing, Refused}
 use Rattle.pair_rules.specs.declared.Chosen.{Chosen}
 use Rattle.pair_rules.specs.Rows.{ring_length, least_row, largest}
 
@@ -80,14 +79,19 @@ tightest_beside n k (value none) = 0
 tightest_beside n k (value (found c hues)) = tightest n (take k hues)
 tightest_beside n k (refused w) = 0
 
--- what an answer hands back, with the hues that stand beside it
-abbrev pub answers : Answer → List ℕ → Said Best
-answers (Found c) hues = value (found c hues)
-answers Nothing hues = value none
-answers (Refused w) hues = refused (number w)
+-- what a call hands back: a chroma with its hues, or none, or the number of a refusal
+abbrev pub chosen_said : Result (Option Chosen) Refusal → Said Best
+chosen_said (Ok (Some c)) = value (found c.chroma c.hues)
+chosen_said (Ok None) = value none
+chosen_said (Err w) = refused (number w)
 
--- what a call hands back says this: an answer, its sixteen hues, and the smallest gap of k of them on a ring of n
-pub record Gives (n k : ℕ) (r : Chosen) (said : Said Best) : Type 0 where
-  pub says : answers r.answer r.hues ≡ said
-  pub beside : r.hues ≡ hues_beside said
-  pub tightest_is : r.tightest ≡ tightest_beside n k said
+-- the smallest gap that it hands back; 0 where it has no hues
+abbrev pub tightest_of : Result (Option Chosen) Refusal → ℕ
+tightest_of (Ok (Some c)) = c.tightest
+tightest_of (Ok None) = 0
+tightest_of (Err w) = 0
+
+-- what a call hands back says this, with the smallest gap of k hues on a ring of n
+pub record Gives (n k : ℕ) (r : Result (Option Chosen) Refusal) (said : Said Best) : Type 0 where
+  pub says : chosen_said r ≡ said
+  pub tightest_is : tightest_of r ≡ tightest_beside n k said

@@ -5,18 +5,11 @@
 mod calls;
 mod colors;
 
-use case_lines::words::size_at;
-use case_lines::{Reader, answers, hues};
+use case_lines::hues;
 use case_tables::directions::Lending;
-use cases::{Line, Words};
+use cases::Line;
 use palette::Design;
-use std::io::Read;
-
-// design k dark light h ..: the design has this hue count, these level indices and these hues, zeros after the last
-const DESIGN: u64 = 0x6465_7369_676e;
-
-// colors c ..: the 32 colours are these, zeros after the last
-const COLORS: u64 = 0x636f_6c6f_7273;
+use srgb::Srgb8;
 
 // What the lines so far have set.
 #[derive(Clone, Copy)]
@@ -24,115 +17,68 @@ struct State {
     lending: Lending,
     design: Design,
     // the colours that a validation is of
-    colors: Words,
-}
-
-// Whether a line of an operation may have so many words.
-fn takes(operation: u64, count: usize) -> bool {
-    match operation {
-        case_tables::directions::DIR | case_tables::directions::BAD => count == 3,
-        case_tables::directions::LEN | calls::VALIDATE => count == 2,
-        calls::DERIVE | calls::BACKOFF => count == 1,
-        DESIGN => 3 <= count && count <= 19,
-        COLORS => 1 <= count && count <= 32,
-        _ => false,
-    }
-}
-
-// The design that these words say, which are 0 after the last hue.
-fn design_of(words: Words) -> Design {
-    let hues = hues::sixteen(words, 3, 19);
-    Design {
-        k: size_at(words, 0),
-        dark: size_at(words, 1),
-        light: size_at(words, 2),
-        hues,
-    }
+    colors: [Srgb8; 32],
 }
 
 impl State {
     // No line has come yet.
     fn new() -> State {
         State {
-            lending: Lending::new(),
-            design: design_of([0u32; cases::MOST]),
-            colors: [0u32; cases::MOST],
+            lending: Lending::new(721, None),
+            design: Design {
+                k: 0,
+                dark: 0,
+                light: 0,
+                hues: [0; 16],
+            },
+            colors: colors::of(&[]),
         }
     }
 
-    // With this lent to the next case.
-    fn with_lending(mut self, lending: Lending) -> State {
-        self.lending = lending;
-        self
-    }
+    // Takes a line, which is answered if it is a case.
+    fn take_line(&mut self, rt: &impl Print, line: &Line) -> Option<()> {
+        let answer = match (line.operation(), line.words()) {
+            // design k dark light h ..: the design has this hue count, these level indices and these hues, zeros after the last
+            (b"design", [k, dark, light, words @ ..])
+                if words.len() <= 16 && colors::are_below(words, 0x1_0000) => {
+                self.design = Design {
+                    k: *k as usize,
+                    dark: *dark as usize,
+                    light: *light as usize,
+                    hues: hues::sixteen(words),
+                };
+                return Some(());
+            }
 
-    // With the design that the words say, if they are hues.
-    fn with_design(mut self, rt: &impl Print, words: Words) -> State {
-        if colors::below(words, 3, 0x1_0000) {
-            let design = design_of(words);
-            self.design = design;
-            return self;
-        }
-        answers::malformed(rt);
-        self
-    }
+            // colors c ..: the 32 colours are these, zeros after the last
+            (b"colors", words @ [_, ..])
+                if words.len() <= 32 && colors::are_below(words, 0x100_0000) => {
+                self.colors = colors::of(words);
+                return Some(());
+            }
 
-    // With the colours that the words say, if they are colours.
-    fn with_colors(mut self, rt: &impl Print, words: Words) -> State {
-        if colors::below(words, 0, 0x100_0000) {
-            self.colors = words;
-            return self;
-        }
-        answers::malformed(rt);
-        self
-    }
+            // derive chroma = number c ..: `derive` of the design, with the number of its refusal or 0, and 32 colours
+            (b"derive", [chroma]) => calls::derive(self.design, *chroma, self.lending.lend()),
 
-    // With its case answered, and with nothing that waits for the next.
-    fn answered(self, rt: &impl Print, line: Line) -> State {
-        let lending = self.lending;
-        let design = self.design;
-        let colors = self.colors;
-        calls::answer(rt, line, lending, design, colors);
-        self.with_lending(lending.after_case())
-    }
+            // validate k count = number gap spread separation chroma finding: `validate` of so many of the colours, with the number
+            // of its refusal alone, or 0, the four metrics and the number of the first finding, 0 where there is none
+            (b"validate", [k, count]) => {
+                calls::validate(*k, *count, self.colors, self.lending.lend())
+            }
 
-    // With a line taken, which is answered if it is a case.
-    fn with_line(self, rt: &impl Print, line: Line) -> State {
-        let operation = line.operation;
-        let words = line.words;
-        let lending = self.lending;
-        if !takes(operation, line.count) {
-            answers::malformed(rt);
-            return self;
-        }
-        match operation {
-            case_tables::directions::DIR => self.with_lending(lending.with_dir(rt, words)),
-            case_tables::directions::BAD => self.with_lending(lending.with_bad(rt, words)),
-            case_tables::directions::LEN => self.with_lending(lending.with_len(rt, words, 721)),
-            DESIGN => self.with_design(rt, words),
-            COLORS => self.with_colors(rt, words),
-            _ => self.answered(rt, line),
-        }
+            // backoff chroma = number passed what c ..: `back_off` of the design, with the number of its refusal or 0; 1 and the
+            // chroma that passed, or 0 and the last finding, 0 where nothing was tried; and 32 colours
+            (b"backoff", [chroma]) => calls::back_off(self.design, *chroma, self.lending.lend()),
+            _ => return self.lending.take_line(line),
+        };
+        answer.write(rt, line);
+        Some(())
     }
-}
-
-// Reads the list to its end. A proved loop ends, so it counts turns down.
-fn take_all(rt: &impl Print, input: &mut impl Read) -> Lending {
-    let mut reader = Reader::new();
-    let mut state = State::new();
-    let mut turns = case_lines::TURNS;
-    while turns > 0 && reader.more {
-        reader = reader.read_on(rt, input);
-        if reader.case {
-            state = state.with_line(rt, reader.line);
-        }
-        turns -= 1;
-    }
-    state.lending
 }
 
 // Answers the list.
 fn main(rt: HostRuntime) {
-    let mut input = rt.reader();
-    take_all(&rt, &mut input).finish(&rt);
+    let mut state = State::new();
+    case_lines::each_case(&rt, |line| state.take_line(&rt, line));
+    state.lending.finish(&rt);
 }

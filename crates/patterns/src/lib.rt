@@ -17,15 +17,13 @@ pub fn float_of(bits: u32) -> f32
     ensures { result ≡ of_bits binary32 bits }
 {
     if is_nan_pattern(bits) {
-        return 0.0 / 0.0;
+        f32::NAN
+    } else {
+        f32::from_bits(bits)
     }
-    f32::from_bits(bits)
 }
 
 // The pattern of a float, which is the same for every NaN.
 pub fn pattern_of(x: f32) -> u32 {
-    if x != x {
-        return 0x7fc0_0000;
-    }
-    f32::to_bits(x)
+    if x.is_nan() { 0x7fc0_0000 } else { x.to_bits() }
 }

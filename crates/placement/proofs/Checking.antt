@@ -7,10 +7,9 @@ use lib.Ieee.{Float}
 use lib.ListN.{length}
 use borrow.Author.Tests.{leb-true}
 use Rattle.limits.specs.Answers.{value, refused, pass}
-use Rattle.limits.specs.Refusals.{number, check_said}
+use Rattle.limits.specs.Refusals.{number, said}
 use Rattle.limits.specs.declared.Refusal.{Refusal}
-use Rattle.limits.specs.declared.Checked.{Checked}
-use Rattle.limits.specs.declared.Checked.TheVariants.{Fine, Wrong}
+use Rattle.std.specs.Prelude.{Result, Ok, Err}
 use Rattle.limits.proofs.Checks.{wrong}
 use Rattle.limits.proofs.HueCount.{both, hue_count}
 use Rattle.placement_rules.specs.Ring.{placement}
@@ -19,8 +18,8 @@ use Rattle.placement_rules.proofs.Checking.{row_checks, row_passes, accepted_say
 use Rattle.placement.specs.Inner.{Asked}
 
 module _ (k step : ℕ) (c : Float) (row : List Float) (room : ℕ) where
-  pub passed : (r : Checked) → r ≡ Fine → check_said r ≡ checked k step c row room pass → checked k step c row room pass ≡ pass
-  passed r f h = sym h ∙ ap check_said f
+  pub passed : (r : Result (Unit {0}) Refusal) → r ≡ Ok tt → said r ≡ checked k step c row room pass → checked k step c row room pass ≡ pass
+  passed r f h = sym h ∙ ap said f
 
   pub asked : checked k step c row room pass ≡ pass → Asked row k step × (work_needed (length row) ≤ room)
   asked h =
@@ -31,9 +30,9 @@ module _ (k step : ℕ) (c : Float) (row : List Float) (room : ℕ) where
       (record { some_hue = a.0; few_hues = a.1; some_step = leb-true 1 step s.0; within = leb-true step (length row) s.1; short = leb-true (length row) 720 n.1 }, leb-true (work_needed (length row)) room t.5)
 
   -- a call whose check is passed, and one whose check is failed
-  pub placing : (r : Checked) → r ≡ Fine → check_said r ≡ checked k step c row room pass → placement_says k step c row room ≡ value (sixteen (placement (allowed_at row c) (length row) k step))
+  pub placing : (r : Result (Unit {0}) Refusal) → r ≡ Ok tt → said r ≡ checked k step c row room pass → placement_says k step c row room ≡ value (sixteen (placement (allowed_at row c) (length row) k step))
   placing r f h = accepted_says k step c row room (passed r f h)
 
-  pub refusing : (r : Checked) (w : Refusal) → r ≡ Wrong w → check_said r ≡ checked k step c row room pass → placement_says k step c row room ≡ refused (number w)
+  pub refusing : (r : Result (Unit {0}) Refusal) (w : Refusal) → r ≡ Err w → said r ≡ checked k step c row room pass → placement_says k step c row room ≡ refused (number w)
   unfolding placement_says checked
   refusing r w f h = wrong (row_checks k step c row room) r h (value (sixteen (placement (allowed_at row c) (length row) k step))) w f

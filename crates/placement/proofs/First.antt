@@ -1,4 +1,4 @@
--- The starts tried one after the other, what an answer says of the start tried, and that nothing is placed where no index is allowed. Assumes nothing.
+-- The starts tried one after the other, what is found says of the start tried, and that nothing is placed where no index is allowed. Assumes nothing.
 use mathlib.Core.Path.{◌≡◌, refl, sym, ap, ◌∙◌}
 use mathlib.Core.Bool.{true, false}
 use mathlib.Core.List.{List}
@@ -6,34 +6,28 @@ use Prim.Native.Nat.{ℕ, suc, ◌+◌, ◌-◌, ◌*◌, ◌≤◌, ◌<◌}
 use native.Mathlib.Omega.{arith}
 use lib.Ieee.{Float}
 use lib.ListN.{length, get_or}
-use Rattle.limits.specs.Answers.{value}
 use Rattle.limits.proofs.Floats.{never}
-use Rattle.placement_rules.specs.declared.Answer.{Answer}
-use Rattle.placement_rules.specs.declared.Answer.TheVariants.{Placed, Nowhere, Refused}
+use Rattle.std.specs.Prelude.{Option, Some, None, is_some}
+use Rattle.placement_rules.specs.declared.Placement.{Placement}
 use Rattle.placement_rules.specs.Ring.{Places, nowhere, placed, or_else, earliest, from_start, first_from, reduced, placement}
-use Rattle.placement_rules.specs.Placing.{allowed_at, sixteen, answers, is_placed}
+use Rattle.placement_rules.specs.Placing.{allowed_at, sixteen, places_of}
 use Rattle.placement.specs.Inner.{Asked}
 use Rattle.placement.proofs.Table.{one_less}
-use Rattle.placement_rules.proofs.Chain.{Some}
+use Rattle.placement_rules.proofs.Chain as Chain
 use Rattle.placement_rules.proofs.Earliest.{first}
 use Rattle.placement_rules.proofs.Laws.{few_starts, sound}
 use Rattle.placement_rules.proofs.Allowed.{round}
 
--- ---- an answer that gives places
-apart : {A : Type 0} (a b : Places) → value a ≡ value b → (a ≡ b → A) → A
-apart a b e f = f (let same : a ≡ b = cc in same)
+-- ---- what is found gives places
+pub placed_there : (found : Option Placement) (n : ℕ) (p : Places) → is_some found ≡ true → places_of found ≡ sixteen (reduced n p) → Chain.Some p
+placed_there found n (placed is) t e = tt
+placed_there (Some x) n nowhere t e = let z : ◌≡◌ {A = ℕ} 0 1 = cc in omega arith
+placed_there None n nowhere t e = never t
 
-pub placed_there : (a : Answer) (hues : List ℕ) (n : ℕ) (p : Places) → is_placed a ≡ true → answers a hues ≡ value (sixteen (reduced n p)) → Some p
-placed_there a hues n (placed is) t e = tt
-placed_there Placed hues n nowhere t e = let z : ◌≡◌ {A = ℕ} 0 1 = cc in omega arith
-placed_there Nowhere hues n nowhere t e = never t
-placed_there (Refused w) hues n nowhere t e = never t
-
-pub not_placed_there : (a : Answer) (hues : List ℕ) (n : ℕ) (p : Places) → is_placed a ≡ false → answers a hues ≡ value (sixteen (reduced n p)) → p ≡ nowhere
-not_placed_there a hues n nowhere t e = refl
-not_placed_there Placed hues n (placed is) t e = never (sym t)
-not_placed_there Nowhere hues n (placed is) t e = absurd (let z : ◌≡◌ {A = ℕ} 0 1 = cc in omega arith)
-not_placed_there (Refused w) hues n (placed is) t e = absurd (let z : ◌≡◌ {A = ℕ} 0 1 = cc in omega arith)
+pub not_placed_there : (found : Option Placement) (n : ℕ) (p : Places) → is_some found ≡ false → places_of found ≡ sixteen (reduced n p) → p ≡ nowhere
+not_placed_there found n nowhere t e = refl
+not_placed_there (Some x) n (placed is) t e = never (sym t)
+not_placed_there None n (placed is) t e = absurd (let z : ◌≡◌ {A = ℕ} 0 1 = cc in omega arith)
 
 -- ---- one start on, of those that are tried
 module _ (row : List Float) (c : Float) (k step : ℕ) (asked : Asked row k step) where
@@ -48,13 +42,13 @@ module _ (row : List Float) (c : Float) (k step : ℕ) (asked : Asked row k step
   all_starts = ap (reduced (length row)) (few_starts (allowed_at row c) (length row) k step (round row c) asked.some_hue asked.some_step asked.within)
 
   module _ (s : ℕ) (so_far : first_from try (starts - s) s ≡ first_from try starts 0) where
-    pub found : s < starts → Some (try s) → placement (allowed_at row c) (length row) k step ≡ reduced (length row) (try s)
+    pub found : s < starts → Chain.Some (try s) → placement (allowed_at row c) (length row) k step ≡ reduced (length row) (try s)
     unfolding first_from
     found h t =
         let e : first_from try (suc (starts - (s + 1))) s ≡ first_from try starts 0 = rw (one_less starts s h) at so_far in
         all_starts ∙ ap (reduced (length row)) (sym e ∙ taken (try s) (first_from try (starts - (s + 1)) (suc s)) t)
       where
-        taken : (p later : Places) → Some p → or_else p later ≡ p
+        taken : (p later : Places) → Chain.Some p → or_else p later ≡ p
         taken nowhere later t = absurd t
         taken (placed is) later t = refl
 

@@ -1,15 +1,16 @@
 -- Placing from a start, one index after the other: what is stored so far, with the rest of the definition, is the whole. Assumes nothing.
-use mathlib.Core.Path.{◌≡◌, refl, sym, ◌∙◌, subst}
+use mathlib.Core.Path.{◌≡◌, refl, sym, ap, ◌∙◌, subst}
 use mathlib.Core.Bool.{Bool, true, false}
 use mathlib.Core.List.{List, [], map}
 use Prim.Native.Nat.{ℕ, zero, suc, ◌+◌, ◌-◌, ◌%◌, ◌≤◌, ◌<◌, min}
 use native.Mathlib.Omega.{arith}
 use lib.ListN.{set, replicate}
 use borrow.Author.Tests.{le-ltb, lt-ltb, le-leb, lt-leb}
+use Rattle.std.specs.Prelude.{Option, None, Ok}
 use Rattle.limits.specs.Answers.{value}
 use Rattle.placement_rules.specs.declared.Placement.{Placement}
 use Rattle.placement_rules.specs.Ring.{Places, nowhere, placed, before, earliest, onward, from_start, reduced}
-use Rattle.placement_rules.specs.Placing.{stores, sixteen, Gives}
+use Rattle.placement_rules.specs.Placing.{stores, sixteen, Hands, Gives}
 use Rattle.placement_rules.proofs.Earliest.{from, nearer_same, nearer_none}
 
 -- the indices reduced by n and stored into the hues from place t on
@@ -70,6 +71,14 @@ pub not_there : (ok : ℕ → Bool) (n k step s : ℕ) → ok s ≡ false → fr
 unfolding from_start
 not_there ok n k step s f = rw f
 
--- ---- an answer gives places that are the same
-pub gives_same : {n k : ℕ} {r : Placement} {p q : Places} → p ≡ q → Gives n k r (value q) → Gives n k r (value p)
-gives_same {n} {k} {r} e g = subst (λ (p : Places). Gives n k r (value p)) (sym e) g
+-- ---- what is handed out is places that are the same
+pub hands_same : {n k : ℕ} {r : Option Placement} {p q : Places} → p ≡ q → Hands n k r q → Hands n k r p
+hands_same {n} {k} {r} e g = subst (Hands n k r) (sym e) g
+
+-- nothing is handed out
+pub hands_none : (n k : ℕ) {p : Places} → p ≡ nowhere → Hands n k None p
+hands_none n k e = hands_same e (record { places_are = refl; tightest_is = refl })
+
+-- what is handed out is what the call gives
+pub given : {n k : ℕ} {found : Option Placement} {p : Places} → Hands n k found p → Gives n k (Ok found) (value p)
+given h = record { says = ap value h.places_are; tightest_is = h.tightest_is }

@@ -1,30 +1,22 @@
 // Steps and placements.
 use case_lines::answers::Answer;
-use case_lines::entries::Row;
-use case_lines::words::{float_at, size_at};
-use case_lines::{answers, work_buffer};
-use cases::Line;
+use case_lines::work_buffer;
 use placement::Placement;
 use placement_checks::Stepping;
 
-// Answers with the step for a hue count.
-pub fn answer_step(rt: &impl Print, line: Line) {
-    let words = line.words;
-    match placement_checks::step_for(size_at(words, 0)) {
-        Stepping::Is(step) => Answer::new().with(0).with_size(step).write(rt, line),
-        Stepping::Refused(why) => Answer::new()
-            .with_byte(why.number())
-            .with(0)
-            .write(rt, line),
+// What comes out of the step for a hue count.
+pub fn step(k: usize) -> Answer {
+    match placement_checks::step_for(k) {
+        Stepping::Is(step) => Answer::new().with(0).with_size(step),
+        Stepping::Refused(why) => Answer::new().with_byte(why.number()).with(0),
     }
 }
 
-// What came out of a placement; `left` is the digest of the work buffer after it.
-fn came_out(found: Placement, left: u64) -> Answer {
-    let answer = found.answer;
-    let hues = found.hues;
+// What came out of a placement; the work buffer is as it was left.
+fn came_out(found: Placement, work: &[u16]) -> Answer {
     let none = Answer::new();
-    match answer {
+    let hues = found.hues;
+    match found.answer {
         placement::Answer::Placed => none
             .with(0)
             .with(1)
@@ -40,40 +32,15 @@ fn came_out(found: Placement, left: u64) -> Answer {
             .with(0)
             .with_size(found.tightest)
             .with_hues(hues)
-            .with_digest(left),
+            .with_digest(work_buffer::digest_of(work)),
     }
 }
 
-// A placement in this work buffer.
-fn placed(line: Line, m: &[f32], work: &mut [u16]) -> Answer {
-    let words = line.words;
-    let seed = work_buffer::seed_of(line.number);
-    let k = size_at(words, 0);
-    let step = size_at(words, 1);
-    let c = float_at(words, 2);
-    work_buffer::fill(work, seed);
-    let found = placement::feasible(m, c, k, step, work);
-    let left = work_buffer::digest_of(work);
-    came_out(found, left)
-}
-
-// Answers with a placement on a ring of this length, in a work buffer of the length that the words say.
-fn answer_on(rt: &impl Print, line: Line, entries: [f32; 800], length: usize) {
-    let words = line.words;
-    let mut work = [0u16; 2400];
-    let room = size_at(words, 3);
-    if length <= 800 {
-        if room <= 2400 {
-            let part = &mut work[0..room];
-            placed(line, &entries[0..length], part).write(rt, line);
-            return;
-        }
-    }
-    answers::malformed(rt);
-}
-
-// Answers with a placement on a ring.
-pub fn answer(rt: &impl Print, line: Line, ring: Row) {
-    let entries = ring.entries;
-    answer_on(rt, line, entries, ring.length);
+// What comes out of a placement on a ring, by the words of the line with this number, in a work buffer of the length that they say.
+pub fn place(number: u64, ring: &[f32], [k, step, c, room]: [u32; 4]) -> Option<Answer> {
+    work_buffer::lend(room as usize, work_buffer::seed_of(number), |work| {
+        let c = patterns::float_of(c);
+        let found = placement::feasible(ring, c, k as usize, step as usize, work);
+        came_out(found, work)
+    })
 }

@@ -5,7 +5,7 @@ use Prim.Native.Nat.{ℕ, suc, ◌+◌, ◌*◌, ◌≤◌, ◌<◌}
 use native.Mathlib.Numerals.{add-one}
 use native.Mathlib.Omega.{arith}
 use lib.ListN.{length, take, get_or, length-append}
-use lib.Seq.{take-suc, length-take-le, take_all}
+use lib.Seq.{take-suc, length-take-le}
 use borrow.Author.Tests.{eq-eqb, ne_eqb}
 use Rattle.text.specs.Put.{PutIn}
 use Rattle.text.specs.Decimal.{decimal}
@@ -49,10 +49,6 @@ indices_next hues i h p q =
     let e : take (i + 1) hues ≡ take i hues ++ (get_or hues i 0 ∷ []) = rw add-one (take-suc hues i 0 h) in
     let n : length (take i hues) ≡ i = length-take-le i hues l in
     rw (e, parted_next (take i hues) (get_or hues i 0), n) (puts_both p q)
-
--- all that there are, or as many as asked
-pub taken_all : (hues : List ℕ) (i k : ℕ) → length hues ≡ 16 → i ≤ k → 16 ≤ i → take i hues ≡ take k hues
-taken_all hues i k e g h = take_all i hues (omega arith) ∙ sym (take_all k hues (omega arith))
 
 -- ---- how long they get: an index takes at most four bytes with its comma
 commas_long : (is : List ℕ) → length (after_commas is) ≤ 4 * length is

@@ -1,24 +1,22 @@
 -- The text of each kind of answer, how long it gets, and the answer with its newline. Assumes nothing.
 use mathlib.Core.Path.{◌≡◌, refl, ◌∙◌}
 use mathlib.Core.Bool.{Bool, true, false, cond}
-use mathlib.Core.List.{List, [], ◌∷◌, ◌++◌}
+use mathlib.Core.List.{List, [], ◌∷◌}
 use Prim.Native.Nat.{ℕ, suc, ◌≤◌}
 use native.Mathlib.Omega.{arith}
 use lib.Ieee.{Float}
 use lib.ListN.{length, take, set, replicate, length-append, length-take, length-set}
 use Rattle.limits.specs.Answers.{Said, value, refused}
 use Rattle.limits.proofs.Checks.{Check, through}
-use Rattle.placement_rules.specs.declared.Answer.{Answer}
-use Rattle.placement_rules.specs.declared.Answer.TheVariants.{Placed, Nowhere, Refused}
 use Rattle.placement_rules.specs.Ring.{Places, nowhere, placed, placement}
-use Rattle.placement_rules.specs.Placing.{allowed_at, stores, sixteen, checked, placement_says, answers}
+use Rattle.placement_rules.specs.Placing.{allowed_at, stores, sixteen, checked, placement_says}
 use Rattle.placement_rules.proofs.Checking.{row_checks}
-use Rattle.text.specs.Put.{PutIn, Laid}
+use Rattle.text.specs.Put.{PutIn}
 use Rattle.text.specs.Decimal.{decimal}
-use Rattle.text.proofs.Put.{puts_both, puts_over}
+use Rattle.text.proofs.Put.{puts_both}
 use Rattle.text.proofs.Decimal.{decimal_long}
 use Rattle.ring_reading.specs.Fields.{Line, malformed, asks, line_of}
-use Rattle.ring_answers.specs.Answers.{room, said_to, line_says, count_of, answer_text, answer_bytes, answer_of, parted}
+use Rattle.ring_answers.specs.Answers.{room, said_to, line_says, count_of, answer_text, answer_bytes, answer_of}
 use Rattle.ring_answers.proofs.Parted.{parted_long}
 
 -- `refused,` and a number
@@ -26,21 +24,6 @@ pub puts_refused : {a b c : List ℕ} {m r : ℕ} (n x : ℕ) → x ≡ n → Pu
     → PutIn a 0 (answer_text 0 (refused n)) c r
 unfolding answer_text
 puts_refused n x e p q = rw (← e) (puts_both p q)
-
--- `none`
-pub puts_nowhere : {a b : List ℕ} {r : ℕ} (k : ℕ) → PutIn a 0 (110 ∷ 111 ∷ 110 ∷ 101 ∷ []) b r → PutIn a 0 (answer_text k (value nowhere)) b r
-unfolding answer_text
-puts_nowhere k p = p
-
--- the k indices
-pub puts_indices : {a b : List ℕ} {r : ℕ} (k : ℕ) (hues : List ℕ) → PutIn a 0 (parted (take k hues)) b r → PutIn a 0 (answer_text k (value (placed hues))) b r
-unfolding answer_text
-puts_indices k hues p = p
-
--- a refusal's text is the same for every k
-pub refused_any : (k n : ℕ) → answer_text 0 (refused n) ≡ answer_text k (refused n)
-unfolding answer_text
-refused_any k n = refl
 
 -- ---- how long it gets: what is placed is sixteen indices
 abbrev pub Sixteen : Said Places → Type 0
@@ -62,19 +45,10 @@ pub bytes_few : (k : ℕ) (said : Said Places) → Sixteen said → length (answ
 unfolding answer_bytes
 bytes_few k said e = let s = text_long k said e in omega (arith, length-append (answer_text k said) (10 ∷ []))
 
--- what a placement hands back
-answers_sixteen : (answer : Answer) (hues : List ℕ) → length hues ≡ 16 → Sixteen (answers answer hues)
-answers_sixteen Placed hues e = e
-answers_sixteen Nowhere hues e = tt
-answers_sixteen (Refused w) hues e = tt
-
 -- an answer with its newline
-pub written : {a b c : List ℕ} {m r : ℕ} (k : ℕ) (answer : Answer) (hues : List ℕ) → length hues ≡ 16 → 64 ≤ length a → PutIn a 0 (answer_text k (answers answer hues)) b m
-    → PutIn b m (10 ∷ []) c r → Laid a (answer_bytes k (answers answer hues)) c r
+pub puts_answer : {a b c : List ℕ} {m r : ℕ} (k : ℕ) (said : Said Places) → PutIn a 0 (answer_text k said) b m → PutIn b m (10 ∷ []) c r → PutIn a 0 (answer_bytes k said) c r
 unfolding answer_bytes
-written {a} k answer hues e l p q =
-    let n : length (answer_text k (answers answer hues) ++ 10 ∷ []) ≤ 64 = bytes_few k (answers answer hues) (answers_sixteen answer hues e) in
-    puts_over (omega arith) (puts_both p q)
+puts_answer k said p q = puts_both p q
 
 -- ---- what is said to a line
 stored_long : (hues : List ℕ) (t : ℕ) (is : List ℕ) → length (stores hues t is) ≡ length hues

@@ -1,5 +1,5 @@
 -- A piece is taken byte by byte: what one more byte writes and keeps, how many bytes are taken, and that some byte is. Assumes nothing.
-use mathlib.Core.Path.{◌≡◌, refl, sym, ap, ◌∙◌}
+use mathlib.Core.Path.{◌≡◌, refl, sym, ap, ◌∙◌, subst}
 use mathlib.Core.Bool.{Bool, true, false, cond}
 use mathlib.Core.List.{List, [], ◌∷◌, ◌++◌, append-nil}
 use Prim.Native.Nat.{ℕ, zero, suc, ◌+◌, ◌≤◌, ◌<◌}
@@ -159,9 +159,12 @@ module _ {before : List ℕ} {held : ℕ} {piece out buffer : List ℕ} {count :
   pub ends_full : 65472 < end → Answered before held piece out buffer text (record { taken = at; held = count; written = end })
   ends_full h = all_taken (none_fits kept end (drop at piece) h)
 
-  pub ends_whole : length piece ≤ at → Answered before held piece out buffer text (record { taken = at; held = count; written = end })
+  pub ends_whole : length piece ≤ at → Answered before held piece out buffer text (record { taken = length piece; held = count; written = end })
   unfolding taken_from
-  ends_whole h = all_taken (ap (taken_from kept end) (drop_of_length-le piece h))
+  ends_whole h =
+      let w = s.within in
+      let e : at ≡ length piece = omega arith in
+      subst (λ (n : ℕ). Answered before held piece out buffer text (record { taken = n; held = count; written = end })) e (all_taken (ap (taken_from kept end) (drop_of_length-le piece h)))
 
 -- ---- at the input's end
 pub end_empty : (buffer : List ℕ) (held : ℕ) → length buffer ≡ 4096 → written_at_end (kept_in buffer held) ≡ cond (eqb held 0) [] (answer_kept (kept_in buffer held))

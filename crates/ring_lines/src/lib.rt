@@ -23,10 +23,7 @@ pub fn keep(buffer: &mut [u8; 4096], held: usize, byte: u8) -> usize
     ensures { Held buffer.old held byte buffer.new result }
 {
     let next = text::put_byte(buffer, held, byte);
-    if held < 4096 {
-        return next;
-    }
-    4097
+    if held < 4096 { next } else { 4097 }
 }
 
 // Writes the answer to the line that is held over the front of a text, and gives its length.
@@ -35,7 +32,7 @@ fn answer_held(buffer: &[u8], held: usize, text: &mut [u8; 64]) -> usize
     ensures { Laid text.old (answer_kept (kept_in buffer.now held)) text.new result }
 {
     if held <= 4096 {
-        return ring_answers::answer_line(&buffer[0..held], text);
+        return ring_answers::answer_line(&buffer[..held], text);
     }
     ring_answers::answer_longer(text)
 }
@@ -54,7 +51,7 @@ fn put_answer(buffer: &[u8], held: usize, out: &mut [u8], at: usize) -> usize
 {
     let mut text = [0u8; 64];
     let n = answer_held(buffer, held, &mut text);
-    text::put_bytes(out, at, &text[0..n])
+    text::put_bytes(out, at, &text[..n])
 }
 
 // Takes the next bytes of the input, and writes the answers to the lines that end among them, until all bytes are taken or
@@ -68,22 +65,26 @@ pub fn answer_piece(
     ensures { Answered buffer.old held piece.now out.old buffer.new out.new result }
 {
     let mut count = held;
-    let mut at = 0;
-    let mut end = 0;
-    while at < piece.len() && end <= 65472 {
-        let byte = piece[at];
+    let mut written = 0;
+    for (taken, &byte) in piece.iter().enumerate() {
+        if written > 65472 {
+            return Progress {
+                taken,
+                held: count,
+                written,
+            };
+        }
         if byte == b'\n' {
-            end = put_answer(buffer, count, out, end);
+            written = put_answer(buffer, count, out, written);
             count = 0;
         } else {
             count = keep(buffer, count, byte);
         }
-        at += 1;
     }
     Progress {
-        taken: at,
+        taken: piece.len(),
         held: count,
-        written: end,
+        written,
     }
 }
 

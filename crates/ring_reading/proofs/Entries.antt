@@ -7,10 +7,9 @@ use native.Mathlib.Nat.{not-suc-le-zero, sub-zero}
 use native.Mathlib.Numerals.{add-one}
 use native.Mathlib.Omega.{arith}
 use lib.Ieee.{Float}
-use lib.ListN.{length, take, drop, set, length-set, length-replicate, take-append-drop}
-use lib.Seq.{take-suc-set, drop-set-lt, drop-drop, length-take-le}
+use lib.ListN.{length, take, set, length-set, length-replicate}
+use lib.Seq.{take_all, take-suc-set, length-take-le}
 use Rattle.limits.specs.Taken.{f32_of}
-use Rattle.text.specs.Put.{over}
 use Rattle.ring_reading.specs.Inner.{fields_from, first_number, later_fields, entered, entries_of}
 use Rattle.ring_reading.specs.Reads.{no_row}
 use Rattle.ring_reading.proofs.Places.{beyond, from}
@@ -39,23 +38,17 @@ unfolding entries_of
 entries_hit m n [] e = let z : ◌≡◌ {A = Option ℕ} none (some n) = e in cc
 entries_hit m n (field ∷ fields) e = rw e
 
--- ---- i entries are read into a row of zeros, and these fields are left
+-- ---- i of so many entries are read, and these fields are left
 pub record SoFar (whole : Option (List Float)) (count i : ℕ) (row : List Float) (fields : List (List ℕ)) : Type 0 where
-  pub within : i ≤ count
-  pub long : length row ≡ 999
-  pub rest : drop i row ≡ drop i no_row
+  pub long : length row ≡ count
   pub splits : whole ≡ after (take i row) (entries_of (count - i) fields)
 
 -- nothing is read yet
-pub read_begins : (count : ℕ) (row : List Float) (fields : List (List ℕ)) → row ≡ no_row → SoFar (entries_of count fields) count 0 row fields
+pub read_begins : (count : ℕ) (row : List Float) (fields : List (List ℕ)) → count ≤ 999 → row ≡ no_row → SoFar (entries_of count fields) count 0 (take count row) fields
 unfolding no_row
-read_begins count row fields e =
-    record {
-      within = omega arith;
-      long = ap length e ∙ length-replicate 999 (f32_of 0);
-      rest = ap (drop 0) e;
-      splits = rw sub-zero (sym (after_none (entries_of count fields)));
-    }
+read_begins count row fields few e =
+    let l : length row ≡ 999 = ap length e ∙ length-replicate 999 (f32_of 0) in
+    record { long = length-take-le count row (omega arith); splits = rw sub-zero (sym (after_none (entries_of count fields))) }
 
 module _ {whole : Option (List Float)} {count i : ℕ} {row : List Float} {fields : List (List ℕ)} (s : SoFar whole count i row fields) where
   -- a field that is no number, or none where one must be
@@ -63,17 +56,14 @@ module _ {whole : Option (List Float)} {count i : ℕ} {row : List Float} {field
   read_fails h e = let u : 0 < count - i = omega arith in s.splits ∙ ap (after (take i row)) (entries_miss (count - i) fields u e)
 
   -- one more entry
-  pub read_next : (n : ℕ) (later : List (List ℕ)) → i < count → count ≤ 999 → first_number fields ≡ some n → later_fields fields ≡ later
-      → SoFar whole count (i + 1) (set row i (f32_of n)) later
-  read_next n later h few e f =
+  pub read_next : (n : ℕ) (later : List (List ℕ)) → i < count → first_number fields ≡ some n → later_fields fields ≡ later → SoFar whole count (i + 1) (set row i (f32_of n)) later
+  read_next n later h e f =
       let l = s.long in
       let u : count - i ≡ suc (count - (i + 1)) = omega arith in
       let k : i < length row = omega arith in
       let t : take (i + 1) (set row i (f32_of n)) ≡ take i row ++ (f32_of n ∷ []) = rw add-one (take-suc-set row i (f32_of n) k) in
       record {
-        within = omega arith;
         long = length-set row i (f32_of n) ∙ l;
-        rest = drop-set-lt (i + 1) row i (f32_of n) (omega arith) ∙ sym (drop-drop 1 i row) ∙ ap (drop 1) s.rest ∙ drop-drop 1 i no_row;
         splits = s.splits
             ∙ ap (λ (m : ℕ). after (take i row) (entries_of m fields)) u
             ∙ ap (after (take i row)) (entries_hit (count - (i + 1)) n fields e)
@@ -81,29 +71,18 @@ module _ {whole : Option (List Float)} {count i : ℕ} {row : List Float} {field
             ∙ rw (t, f);
       }
 
--- all are read: where the line is at its end they are the row's first, with zeros after them, and else it has too many
+-- all are read: where the line is at its end they are all that there are, and else it has too many
 module _ {whole : Option (List Float)} {count i : ℕ} {row : List Float} (line : List ℕ) (at : ℕ) (s : SoFar whole count i row (fields_from line at)) (all : count ≤ i) where
-  last : whole ≡ after (take count row) (entries_of 0 (fields_from line at))
+  last : whole ≡ after row (entries_of 0 (fields_from line at))
   last =
-      let w = s.within in
-      let e : i ≡ count = omega arith in
+      let l = s.long in
       let z : count - i ≡ 0 = omega arith in
-      s.splits ∙ rw (z, e)
+      s.splits ∙ rw (z, take_all i row (omega arith))
 
-  pub read_whole : length line < at → whole ≡ some (take count row)
+  pub read_whole : length line < at → whole ≡ some row
   unfolding entries_of
-  read_whole h = last ∙ rw (beyond line at h) (ap some (append-nil (take count row)))
+  read_whole h = last ∙ rw (beyond line at h) (ap some (append-nil row))
 
   pub read_more : at ≤ length line → whole ≡ none
   unfolding entries_of
   read_more h = last ∙ rw (from line at h)
-
-  pub read_row : count ≤ 999 → row ≡ over (take count row) no_row
-  unfolding over
-  read_row few =
-      let w = s.within in
-      let l = s.long in
-      let e : i ≡ count = omega arith in
-      let n : length (take count row) ≡ count = length-take-le count row (omega arith) in
-      let r : drop count row ≡ drop count no_row = rw e at s.rest in
-      rw n (sym (take-append-drop count row) ∙ ap (λ (l : List Float). take count row ++ l) r)

@@ -1,5 +1,5 @@
 -- The field that starts at a place of a line, by the bytes from there on, where the line ends as if a comma followed. Assumes nothing.
-use mathlib.Core.Path.{◌≡◌, refl, sym, ap, ◌∙◌, subst}
+use mathlib.Core.Path.{◌≡◌, refl, sym, ap, ◌∙◌}
 use mathlib.Core.Bool.{Bool, true, false, cond}
 use mathlib.Core.List.{List, [], ◌∷◌}
 use mathlib.Core.Option.{none, some}
@@ -13,8 +13,7 @@ use lib.Seq.{drop-cons}
 use borrow.Author.Tests.{le-leb, lt-leb, leb-true, leb-false, ltb-true, ltb-false, eqb-true, eqb-false, eq-eqb, ne_eqb}
 use Rattle.ring_reading.specs.Numbers.{is_digit, number_of}
 use Rattle.ring_reading.specs.Fields.{onto, cut, fields_of}
-use Rattle.ring_reading.specs.Inner.{fields_from, first_number, later_fields, Bytes, Finds}
-use Rattle.ring_reading.specs.declared.Field.{Field}
+use Rattle.ring_reading.specs.Inner.{fields_from, first_number, later_fields, Bytes}
 use Rattle.ring_reading.proofs.Numbers.{digit_range, digit_no_comma, no_digits, first_no_digit, zero_then_more, second_no_digit, third_no_digit, four_digits, one_digit, two_digits, three_digits_lem}
 
 -- a byte within a line does not turn on what stands past its end
@@ -204,7 +203,3 @@ module _ {line : List ℕ} {at a b c d : ℕ} (bytes : Bytes line at a b c d) (d
         found_four n =
             ap first_number fields_three ∙ ap (λ (f : List ℕ). number_of (a ∷ b ∷ c ∷ f)) (on_first line (at + 3) d bytes.fourth n)
             ∙ four_digits a b c d (first (drop (at + 3 + 1) line))
-
--- what is found, once it is known which it is
-pub told : (line : List ℕ) (at : ℕ) {r s : Field} → r ≡ s → Finds line at r → Finds line at s
-told line at e f = subst (λ (field : Field). Finds line at field) e f

@@ -1,28 +1,24 @@
 -- A line is read number by number: the first that is missing makes it malformed, and after four the entries must be just as many as the first says. Assumes nothing.
-use mathlib.Core.Path.{◌≡◌, refl, sym, ap, ◌∙◌, subst}
+use mathlib.Core.Path.{◌≡◌, refl, sym, ap, ◌∙◌}
 use mathlib.Core.Bool.{Bool, true, false, cond}
 use mathlib.Core.List.{List, [], ◌∷◌, ◌++◌, map, append_assoc}
 use mathlib.Core.Option.{Option, none, some}
+use Rattle.std.specs.Prelude.{Some, None}
 use Prim.Native.Nat.{ℕ, zero, suc, ◌≤◌, ◌<◌}
 use native.Mathlib.Omega.{arith}
 use lib.Dec.{eqb}
 use lib.Ieee.{Float}
-use lib.ListN.{length, take}
+use lib.ListN.{length, drop}
+use lib.Seq.{take_at}
 use borrow.Author.Tests.{le-leb, lt-leb, eq-eqb, ne_eqb, eqb-true, eqb-false}
 use Rattle.limits.specs.Taken.{f32_of}
 use Rattle.text.specs.Put.{over}
 use Rattle.ring_reading.specs.Numbers.{number_of}
-use Rattle.ring_reading.specs.Fields.{fields_of, joined, numbers_of, Line, malformed, asks, shaped, line_of}
-use Rattle.ring_reading.specs.Reads.{no_row, line_read, entries_read, LineRead}
+use Rattle.ring_reading.specs.Fields.{fields_of, joined, numbers_of, malformed, asks, shaped, line_of}
+use Rattle.ring_reading.specs.Reads.{no_row, LineRead}
 use Rattle.ring_reading.specs.Inner.{fields_from, first_number, later_fields, Finds, entered, entries_of, with_entries, Heads}
-use Rattle.ring_reading.specs.declared.Reading.{Reading}
-use Rattle.ring_reading.specs.declared.Reading.TheVariants.{Asks}
-use Rattle.ring_reading.specs.declared.Asked.{Asked}
 use Rattle.ring_reading.specs.declared.Field.{Field}
-use Rattle.ring_reading.specs.declared.Field.TheVariants.{Number, Missing}
 use Rattle.ring_reading.specs.declared.Head.{Head}
-use Rattle.ring_reading.specs.declared.Head.TheVariants.{Four, Fewer}
-use Rattle.ring_reading.proofs.Places.{told}
 
 -- numbers that were read before others
 abbrev pub after : List ℕ → Option (List ℕ) → Option (List ℕ)
@@ -109,20 +105,14 @@ begins line = record { shape = rw (le-leb 0 (length line) (omega arith)) (go (nu
     go none = refl
     go (some ns) = refl
 
-module _ {line got : List ℕ} {at : ℕ} (b : Begins line got at) {r : Field} (f : Finds line at r) where
+module _ {line got : List ℕ} {at : ℕ} (b : Begins line got at) where
   -- one more
-  pub begins_next : {n next : ℕ} → r ≡ Number n next → Begins line (got ++ n ∷ []) next
-  begins_next {n} {next} e =
-      let g : Finds line at (Number n next) = told line at e f in
-      record { shape = b.shape ∙ ap shaped (hit got (fields_from line at) n g.1.0) ∙ rw g.1.1 }
+  pub begins_next : (f : Field) → Finds line at (Some f) → Begins line (got ++ f.number ∷ []) f.next
+  begins_next f g = record { shape = b.shape ∙ ap shaped (hit got (fields_from line at) f.number g.1.0) ∙ rw g.1.1 }
 
   -- one is missing
-  pub begins_missing : length got < 4 → r ≡ Missing → shaped (numbers_of (fields_of line)) ≡ malformed
-  begins_missing h e = b.shape ∙ miss got (fields_from line at) h (told line at e f)
-
--- a number of a line is below 1,000
-pub below : (line : List ℕ) (at : ℕ) {n next : ℕ} {r : Field} → r ≡ Number n next → Finds line at r → n < 1000
-below line at {n} {next} e f = let g : Finds line at (Number n next) = told line at e f in g.0
+  pub begins_missing : length got < 4 → Finds line at None → shaped (numbers_of (fields_of line)) ≡ malformed
+  begins_missing h f = b.shape ∙ miss got (fields_from line at) h f
 
 -- after the four
 pub begins_entries : {line : List ℕ} {n k step c at : ℕ} → Begins line (n ∷ k ∷ step ∷ c ∷ []) at
@@ -130,40 +120,35 @@ pub begins_entries : {line : List ℕ} {n k step c at : ℕ} → Begins line (n 
 begins_entries {line} {n} {k} {step} {c} {at} b = b.shape ∙ four n k step c (fields_from line at)
 
 -- ---- what is read of a line: nothing, or what its four numbers and its entries ask
-pub too_long : (line : List ℕ) {r : Asked} → 4096 < length line → LineRead malformed r → LineRead (line_of line) r
+pub read_malformed : LineRead malformed None
+read_malformed = record { asking = refl; holds = tt; few = omega arith }
+
+pub too_long : (line : List ℕ) → 4096 < length line → LineRead (line_of line) None
 unfolding line_of
-too_long line h m = rw (lt-leb (length line) 4096 h) m
+too_long line h = rw (lt-leb (length line) 4096 h) read_malformed
 
-whole : (line : List ℕ) → length line ≤ 4096 → line_of line ≡ shaped (numbers_of (fields_of line))
-unfolding line_of
-whole line short = rw (le-leb (length line) 4096 short)
+module _ (line : List ℕ) (short : length line ≤ 4096) where
+  whole : line_of line ≡ shaped (numbers_of (fields_of line))
+  unfolding line_of
+  whole = rw (le-leb (length line) 4096 short)
 
-module _ (line : List ℕ) (short : length line ≤ 4096) {h : Head} (heads : Heads line h) {r : Asked} where
-  pub no_head : h ≡ Fewer → LineRead malformed r → LineRead (line_of line) r
-  no_head e m = subst (λ (l : Line). LineRead l r) (sym (whole line short ∙ subst (Heads line) e heads)) m
+  pub no_head : Heads line None → LineRead (line_of line) None
+  no_head e = rw (whole ∙ e) read_malformed
 
-  pub by_entries : {n k step c at : ℕ} → h ≡ Four n k step c at → LineRead (with_entries k step c (entries_of n (fields_from line at))) r → LineRead (line_of line) r
-  by_entries {n} {k} {step} {c} {at} e m =
-      let known : Heads line (Four n k step c at) = subst (Heads line) e heads in
-      subst (λ (l : Line). LineRead l r) (sym (whole line short ∙ known.1)) m
-
--- and how many entries it must have is known to be below 1,000
-pub entries_below : (line : List ℕ) {h : Head} {n k step c at : ℕ} → Heads line h → h ≡ Four n k step c at → n ≤ 999
-entries_below line {h} {n} {k} {step} {c} {at} heads e =
-    let known : Heads line (Four n k step c at) = subst (Heads line) e heads in
-    let u = known.0 in
-    omega arith
+  pub by_entries : (h : Head) → Heads line (Some h) → {r : _} → LineRead (with_entries h.k h.step h.c (entries_of h.length (fields_from line h.entries))) r → LineRead (line_of line) r
+  by_entries h known m = rw (whole ∙ known.1) m
 
 -- ---- what is read of its entries
-pub wrong_entries : (k step c : ℕ) {found : Option (List Float)} {r : Asked} → found ≡ none → LineRead malformed r → LineRead (with_entries k step c found) r
-wrong_entries k step c e m = rw e m
+pub wrong_entries : (k step c : ℕ) {found : Option (List Float)} → found ≡ none → LineRead (with_entries k step c found) None
+wrong_entries k step c e = rw e read_malformed
 
-pub well_formed : {n k step : ℕ} (c : ℕ) {found : Option (List Float)} {r : Asked} → n ≤ 999 → r.reading ≡ Asks n k step (f32_of c) → found ≡ some (take n r.row)
-    → r.row ≡ over (take n r.row) no_row → LineRead (with_entries k step c found) r
-well_formed {n} {k} {step} c {found} {r} few e f g =
+pub well_formed : {n k step : ℕ} (c : ℕ) {found : Option (List Float)} (items : List Float) {zeros : List Float} → n ≤ 999 → length items ≡ n → zeros ≡ no_row → found ≡ some items
+    → LineRead (with_entries k step c found) (Some (record { length = n; k = k; step = step; c = f32_of c; row = items ++ drop n zeros }))
+unfolding over
+well_formed {n} {k} {step} c items {zeros} few e z f =
     rw f
     (record {
-      asking = ap (λ (s : Reading). line_read s r.row) e;
-      holds = g;
-      few = subst (λ (s : Reading). entries_read s ≤ 999) (sym e) few;
+      asking = ap (asks k step (f32_of c)) (take_at items (drop n zeros) n e);
+      holds = rw (z, ← e);
+      few = few;
     })

@@ -1,11 +1,10 @@
 -- What the private functions that read a line promise among themselves. Nothing here is a promise to a caller. Definitions only.
-use Rattle.std.specs.Prelude.{◌≡◌, cond, List, [], ◌∷◌, ℕ, zero, suc, ◌+◌, ◌<◌, leb, Float, length, drop, get_or}
+use Rattle.std.specs.Prelude as prelude
+use Rattle.std.specs.Prelude.{◌≡◌, Some, None, cond, List, [], ◌∷◌, ℕ, zero, suc, ◌+◌, ◌<◌, leb, Float, length, drop, get_or}
 use Rattle.std.proofs.Math.Option.{Option, none, some}
 use Rattle.limits.specs.Taken.{f32_of}
 use Rattle.ring_reading.specs.declared.Field.{Field}
-use Rattle.ring_reading.specs.declared.Field.TheVariants.{Number, Missing}
 use Rattle.ring_reading.specs.declared.Head.{Head}
-use Rattle.ring_reading.specs.declared.Head.TheVariants.{Four, Fewer}
 use Rattle.ring_reading.specs.Numbers.{number_of}
 use Rattle.ring_reading.specs.Fields.{fields_of, numbers_of, Line, malformed, asks, shaped}
 
@@ -31,9 +30,9 @@ pub record Bytes (line : List ℕ) (at a b c d : ℕ) : Type 0 where
   pub fourth : d ≡ get_or line (at + 3) 44
 
 -- what is found at a place of a line
-abbrev pub Finds : List ℕ → ℕ → Field → Type 0
-Finds line at (Number n next) = (n < 1000) × ((first_number (fields_from line at) ≡ some n) × (later_fields (fields_from line at) ≡ fields_from line next))
-Finds line at Missing = first_number (fields_from line at) ≡ none
+abbrev pub Finds : List ℕ → ℕ → prelude.Option Field → Type 0
+Finds line at (Some f) = (f.number < 1000) × ((first_number (fields_from line at) ≡ some f.number) × (later_fields (fields_from line at) ≡ fields_from line f.next))
+Finds line at None = first_number (fields_from line at) ≡ none
 
 -- an entry before others
 abbrev pub entered : Option ℕ → Option (List Float) → Option (List Float)
@@ -54,6 +53,6 @@ with_entries k step c none = malformed
 with_entries k step c (some row) = asks k step (f32_of c) row
 
 -- the four numbers before the entries
-abbrev pub Heads : List ℕ → Head → Type 0
-Heads line (Four n k step c at) = (n < 1000) × (shaped (numbers_of (fields_of line)) ≡ with_entries k step c (entries_of n (fields_from line at)))
-Heads line Fewer = shaped (numbers_of (fields_of line)) ≡ malformed
+abbrev pub Heads : List ℕ → prelude.Option Head → Type 0
+Heads line (Some h) = (h.length < 1000) × (shaped (numbers_of (fields_of line)) ≡ with_entries h.k h.step h.c (entries_of h.length (fields_from line h.entries)))
+Heads line None = shaped (numbers_of (fields_of line)) ≡ malformed

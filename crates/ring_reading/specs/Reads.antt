@@ -1,9 +1,7 @@
 -- What the reader of a line hands back. Definitions only.
-use Rattle.std.specs.Prelude.{◌≡◌, List, ℕ, ◌≤◌, Float, take, replicate}
+use Rattle.std.specs.Prelude.{◌≡◌, Option, Some, None, IfSome, List, ℕ, ◌≤◌, Float, take, replicate}
 use Rattle.limits.specs.Taken.{f32_of}
 use Rattle.text.specs.Put.{over}
-use Rattle.ring_reading.specs.declared.Reading.{Reading}
-use Rattle.ring_reading.specs.declared.Reading.TheVariants.{Malformed, Asks}
 use Rattle.ring_reading.specs.declared.Asked.{Asked}
 use Rattle.ring_reading.specs.Fields.{Line, malformed, asks}
 
@@ -16,18 +14,18 @@ abbrev pub row_of : Line → List Float
 row_of malformed = no_row
 row_of (asks k step c entries) = over entries no_row
 
--- what a reading says with the row beside it, whose first are the entries
-abbrev pub line_read : Reading → List Float → Line
-line_read Malformed row = malformed
-line_read (Asks n k step c) row = asks k step c (take n row)
+-- what is read of a line says: the row's first are the entries
+abbrev pub line_read : Option Asked → Line
+line_read None = malformed
+line_read (Some a) = asks a.k a.step a.c (take a.length a.row)
 
 -- how many there are
-abbrev pub entries_read : Reading → ℕ
-entries_read Malformed = 0
-entries_read (Asks n k step c) = n
+abbrev pub entries_read : Option Asked → ℕ
+entries_read None = 0
+entries_read (Some a) = a.length
 
--- what is handed back for a line that asks this
-pub record LineRead (line : Line) (r : Asked) : Type 0 where
-  pub asking : line_read r.reading r.row ≡ line
-  pub holds : r.row ≡ row_of line
-  pub few : entries_read r.reading ≤ 999
+-- what is handed back for a line that asks this; of a malformed line no row is
+pub record LineRead (line : Line) (r : Option Asked) : Type 0 where
+  pub asking : line_read r ≡ line
+  pub holds : IfSome r (λ (a : Asked). a.row ≡ row_of line)
+  pub few : entries_read r ≤ 999

@@ -1,32 +1,33 @@
--- The hues of a job, one after the other: one on, at one that is too large, and at the end. Assumes nothing.
-use mathlib.Core.Path.{◌≡◌, refl}
-use mathlib.Core.Bool.{true, false}
-use mathlib.Core.List.{List}
-use Prim.Native.Nat.{ℕ, ◌+◌, ◌≤◌, ◌<◌}
-use native.Mathlib.Omega.{arith}
+-- The hues of a job: the first n are held to 719, the others to zero, each part in a test of its own. Assumes nothing.
+use mathlib.Core.Path.{◌≡◌, refl, sym, ap, ◌∙◌}
+use mathlib.Core.Bool.{Bool, true, false, ◌&&◌, and_assoc}
+use mathlib.Core.List.{List, [], ◌∷◌}
+use Prim.Native.Nat.{ℕ, zero, suc}
 use lib.Dec.{leb, eqb}
-use lib.ListN.{length, get_or}
-use borrow.Author.Tests.{le-leb, lt-leb, eq-eqb, ne_eqb}
-use Rattle.limits.proofs.Firsts as firsts
-use Rattle.limits.proofs.Firsts.{left, Tests, first_goes, rest_goes}
+use lib.ListN.{take, drop}
+use Rattle.std.specs.List.{list_all}
 use Rattle.search_rules.specs.Job.{hues_held}
 
-tests : Tests hues_held (λ h. leb h 719) (λ h. eqb h 0)
+abbrev pub first_held : ℕ → List ℕ → Bool
+first_held n hues = list_all (λ h. leb h 719) (take n hues)
+
+abbrev pub others_held : ℕ → List ℕ → Bool
+others_held n hues = list_all (λ h. eqb h 0) (drop n hues)
+
+none_stands : (hues : List ℕ) → hues_held 0 hues ≡ list_all (λ h. eqb h 0) hues
 unfolding hues_held
-tests = record { at_end = λ n. refl; at_first = λ n h hs. refl; at_rest = λ h hs. refl }
+none_stands [] = refl
+none_stands (h ∷ hs) = ap (λ (b : Bool). eqb h 0 && b) (none_stands hs)
 
-module _ (n : ℕ) (hues : List ℕ) (i : ℕ) (at : i < length hues) where
-  pub first_next : i < n → get_or hues i 0 ≤ 719 → left hues_held n hues i ≡ left hues_held n hues (i + 1)
-  first_next h t = first_goes tests n hues i true at h (le-leb (get_or hues i 0) 719 t)
+parted : (n : ℕ) (hues : List ℕ) → hues_held n hues ≡ (first_held n hues && others_held n hues)
+unfolding hues_held
+parted zero hues = none_stands hues
+parted (suc n) [] = refl
+parted (suc n) (h ∷ hs) = ap (λ (b : Bool). leb h 719 && b) (parted n hs) ∙ sym (and_assoc (leb h 719) (first_held n hs) (others_held n hs))
 
-  pub first_fails : i < n → 719 < get_or hues i 0 → left hues_held n hues i ≡ false
-  first_fails h t = first_goes tests n hues i false at h (lt-leb (get_or hues i 0) 719 t)
+-- the first test decides, and where it passes the second
+pub by_others : {a b : Bool} (n : ℕ) (hues : List ℕ) → a ≡ first_held n hues → a ≡ true → b ≡ others_held n hues → b ≡ hues_held n hues
+by_others {a} {b} n hues e h f = f ∙ ap (λ (t : Bool). t && others_held n hues) (sym h ∙ e) ∙ sym (parted n hues)
 
-  pub rest_next : n ≤ i → get_or hues i 0 ≤ 0 → left hues_held n hues i ≡ left hues_held n hues (i + 1)
-  rest_next h t = rest_goes tests n hues i true at h (eq-eqb (get_or hues i 0) 0 (omega arith))
-
-  pub rest_fails : n ≤ i → 0 < get_or hues i 0 → left hues_held n hues i ≡ false
-  rest_fails h t = rest_goes tests n hues i false at h (ne_eqb (get_or hues i 0) 0 (λ e. omega arith))
-
-pub none_left : (n : ℕ) (hues : List ℕ) (i : ℕ) → length hues ≤ i → left hues_held n hues i ≡ true
-none_left n hues i h = firsts.none_left tests n hues i h
+pub by_first : {a : Bool} (n : ℕ) (hues : List ℕ) → a ≡ first_held n hues → a ≡ false → a ≡ hues_held n hues
+by_first {a} n hues e h = h ∙ ap (λ (t : Bool). t && others_held n hues) (sym h ∙ e) ∙ sym (parted n hues)

@@ -3,13 +3,13 @@
 // Its cases are in `search_cases`.
 #![tactic(auto)]
 
-ghost use Rattle.std.specs.Prelude.{◌≡◌, ◌&&◌};
+ghost use Rattle.std.specs.Prelude.{◌≡◌};
 ghost use Rattle.limits.specs.Answers.{value};
-ghost use Rattle.limits.specs.Refusals.{check_said};
+ghost use Rattle.limits.specs.Refusals.{said};
 ghost use Rattle.search_rules.specs.Job.{gap_starts, start_checked, best_held, handed, hues_held, tightest_held, unbroken, step_checked, far_enough, qualifies};
 
 use gamut::Gamut;
-use limits::{Checked, Refusal};
+use limits::Refusal;
 use search_rules::{Best, Job, Settings};
 
 // Whether a job may be begun with this gap: one that number 2 of document 01 takes, and from 40 up.
@@ -21,14 +21,14 @@ fn starts_gap(gap: f32) -> bool
 
 // The first refusal of a start, of 1, 2, 6 and 7 over the whole table.
 #[tactic(auto, unfolding(search_rules::specs::Job::start_checked_by))]
-pub fn check_start(settings: Settings, table: &[f32]) -> Checked
-    ensures { check_said result ≡ start_checked settings table.now (value tt) }
+pub fn check_start(settings: Settings, table: &[f32]) -> Result<(), Refusal>
+    ensures { said result ≡ start_checked settings table.now (value tt) }
 {
     if !limits::takes_hue_count(settings.k) {
-        return Checked::Wrong(Refusal::HueCount);
+        return Err(Refusal::HueCount);
     }
     if !starts_gap(settings.gap) {
-        return Checked::Wrong(Refusal::Gap);
+        return Err(Refusal::Gap);
     }
     gamut::check_table(table)
 }
@@ -37,19 +37,10 @@ pub fn check_start(settings: Settings, table: &[f32]) -> Checked
 fn holds_hues(n: usize, hues: [u16; 16]) -> bool
     ensures { result ≡ hues_held n hues }
 {
-    let mut i: usize = 0;
-    while i < 16 {
-        let most: u16 = if i < n { 719 } else { 0 };
-        if most < hues[i] {
-            return false;
-        }
-        i += 1;
-    }
-    true
+    hues.iter().take(n).all(|hue| *hue <= 719) && hues.iter().skip(n).all(|hue| *hue == 0)
 }
 
 // Whether a best so far is in its ranges, in a table of so many levels.
-#[tactic(auto, unfolding(search_rules::specs::Job::best_held))]
 fn holds_best(levels: usize, best: Best) -> bool
     ensures { result ≡ best_held levels best }
 {
@@ -65,26 +56,18 @@ fn handed(k: usize, best: Best) -> usize
 {
     match best {
         Best::None => 0,
-        Best::Found(_, _, _) => k,
+        Best::Found(..) => k,
     }
 }
 
 // Whether the smallest gap beside a best so far is in its range, or 0 where there is none.
-#[tactic(auto, unfolding(search_rules::specs::Job::tightest_held))]
 fn holds_tightest(best: Best, tightest: usize) -> bool
     ensures { result ≡ tightest_held best tightest }
 {
     match best {
         Best::None => tightest == 0,
-        Best::Found(_, _, _) => 1 <= tightest && tightest <= Gamut::HUES,
+        Best::Found(..) => (1..=Gamut::HUES).contains(&tightest),
     }
-}
-
-// Whether what is handed out with a best so far is in its ranges: its hues and their smallest gap.
-fn holds_handed(k: usize, best: Best, hues: [u16; 16], tightest: usize) -> bool
-    ensures { result ≡ hues_held (handed k best) hues && tightest_held best tightest }
-{
-    holds_hues(handed(k, best), hues) && holds_tightest(best, tightest)
 }
 
 // Whether no field of a job is out of its range.
@@ -92,43 +75,33 @@ fn holds_handed(k: usize, best: Best, hues: [u16; 16], tightest: usize) -> bool
 pub fn is_unbroken(job: Job) -> bool
     ensures { result ≡ unbroken job }
 {
-    let k = job.settings.k;
-    let gap = job.settings.gap;
-    let levels = job.levels;
-    let position = job.position;
-    let best = job.best;
-    let hues = job.hues;
-    if !(limits::takes_hue_count(k) && limits::takes_gap(gap)) {
-        return false;
-    }
-    if !(1 <= levels && levels <= Gamut::LEVELS) {
-        return false;
-    }
-    if levels * levels < position {
-        return false;
-    }
-    holds_best(levels, best) && holds_handed(k, best, hues, job.tightest)
+    limits::takes_hue_count(job.settings.k)
+        && limits::takes_gap(job.settings.gap)
+        && (1..=Gamut::LEVELS).contains(&job.levels)
+        && job.position <= job.levels * job.levels
+        && holds_best(job.levels, job.best)
+        && holds_hues(handed(job.settings.k, job.best), job.hues)
+        && holds_tightest(job.best, job.tightest)
 }
 
 // The first refusal of a step before it reads a row, of 15, 14, 6 and 8.
 #[tactic(auto, unfolding(search_rules::specs::Job::step_checked, placement_rules::specs::Placing::work_needed))]
-pub fn check_step(job: Job, length: usize, room: usize) -> Checked
-    ensures { check_said result ≡ step_checked job length room (value tt) }
+pub fn check_step(job: Job, length: usize, room: usize) -> Result<(), Refusal>
+    ensures { said result ≡ step_checked job length room (value tt) }
 {
     if !is_unbroken(job) {
-        return Checked::Wrong(Refusal::Broken);
+        return Err(Refusal::Broken);
     }
-    let levels = job.levels;
-    if levels * levels <= job.position {
-        return Checked::Wrong(Refusal::Finished);
+    if job.levels * job.levels <= job.position {
+        return Err(Refusal::Finished);
     }
-    if length != levels * Gamut::HUES {
-        return Checked::Wrong(Refusal::TableLength);
+    if length != job.levels * Gamut::HUES {
+        return Err(Refusal::TableLength);
     }
     if room < Gamut::HUES {
-        return Checked::Wrong(Refusal::WorkBuffer);
+        return Err(Refusal::WorkBuffer);
     }
-    Checked::Fine
+    Ok(())
 }
 
 // Whether the light level minus the dark one is not below gap + 1, one f32 sum. With a NaN gap it never is below; whoever asks has
@@ -136,12 +109,11 @@ pub fn check_step(job: Job, length: usize, room: usize) -> Checked
 pub fn far_enough(gap: f32, dark: u16, light: u16) -> bool
     ensures { result ≡ far_enough gap dark light }
 {
-    let apart = Gamut::l_of(light) - Gamut::l_of(dark);
-    let least = gap + 1.0;
-    !(apart < least)
+    !(Gamut::l_of(light) - Gamut::l_of(dark) < gap + 1.0)
 }
 
 // Whether a job with these settings searches a pair of levels.
+#[tactic(auto, unfolding(search_rules::specs::Job::qualifies))]
 pub fn qualifies(settings: Settings, dark: u16, light: u16) -> bool
     ensures { result ≡ qualifies settings dark light }
 {

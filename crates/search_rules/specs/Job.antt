@@ -1,10 +1,11 @@
 -- Document 01, "The job", and Reqs 05 and 07 of document 02: what start and step hand back for every job record, table and work buffer, and what document 01's start did.
 -- Definitions only.
-use Rattle.std.specs.Prelude.{ℕ, zero, suc, ◌+◌, ◌*◌, ◌/◌, ◌%◌, ◌≡◌, Bool, true, not, ◌&&◌, cond, List, [], ◌∷◌, leb, ltb, eqb, Float, length, take, replicate}
+use Rattle.std.specs.Prelude.{ℕ, zero, suc, ◌+◌, ◌*◌, ◌/◌, ◌%◌, ◌≡◌, Bool, true, not, ◌&&◌, cond, List, [], ◌∷◌, leb, ltb, eqb, Float, length, take, replicate, Result, Ok, Err}
 use Rattle.std.specs.Float.{binary32}
 use Rattle.std.specs.Float.Ieee.{add, sub, lt, le}
 use Rattle.limits.specs.Answers.{Said, value, refused}
 use Rattle.limits.specs.Refusals.{number}
+use Rattle.limits.specs.declared.Refusal.{Refusal}
 use Rattle.limits.specs.Taken.{f32_of, hue_count_taken, gap_taken, entry_taken, every}
 use Rattle.gamut.specs.Gamut.{level_of}
 use Rattle.gamut.specs.Table.{levels_in, row_at, table_checked}
@@ -17,9 +18,6 @@ use Rattle.search_rules.specs.declared.Settings.{Settings}
 use Rattle.search_rules.specs.declared.Best.{Best}
 use Rattle.search_rules.specs.declared.Best.TheVariants.{None, Found}
 use Rattle.search_rules.specs.declared.Job.{Job}
-use Rattle.search_rules.specs.declared.Outcome.{Outcome}
-use Rattle.search_rules.specs.declared.Answer.{Answer}
-use Rattle.search_rules.specs.declared.Answer.TheVariants.{Accepted, Refused}
 
 -- ---- start
 -- the gap that a start takes: "number 2 for a gap below 40 as well"
@@ -150,15 +148,15 @@ abbrev pub job_after : Job → Said Job → Job
 job_after j (value new) = new
 job_after j (refused n) = j
 
--- what an answer says, with the job that stands beside it
-abbrev pub answers : Answer → Job → Said Job
-answers Accepted j = value j
-answers (Refused w) j = refused (number w)
+-- what a result says, with the job that the call leaves
+abbrev pub answers : Result (Unit {0}) Refusal → Job → Said Job
+answers (Ok done) j = value j
+answers (Err w) j = refused (number w)
 
--- an answer with the job beside it, given for a job that was lent, says this
-pub record Gives (r : Outcome) (before : Job) (said : Said Job) : Type 0 where
-  pub says : answers r.answer r.job ≡ said
-  pub job_is : r.job ≡ job_after before said
+-- a result with the job that the call leaves, given for a job that was lent, says this
+pub record Gives (r : Result (Unit {0}) Refusal) (before after : Job) (said : Said Job) : Type 0 where
+  pub says : answers r after ≡ said
+  pub job_is : after ≡ job_after before said
 
 -- ---- a whole search
 -- so many steps, each on the job that the one before it left

@@ -1,8 +1,6 @@
-// The job that searches every pair of levels: its record, and what a call hands back. The rules of start and step, and the theorem
-// over whole runs, stand in specs/ and proofs/; the code is the crate `search`.
+// The job that searches every pair of levels: its record. The rules of start and step, what a call hands back, and the theorem over
+// whole runs stand in specs/ and proofs/; the code is the crate `search`.
 #![tactic(auto)]
-
-use limits::Refusal;
 
 // What a start sets.
 #[derive(Clone, Copy)]
@@ -13,7 +11,8 @@ pub struct Settings {
     pub gap: f32,
 }
 
-// The best so far; its hues stand beside it in the job.
+// The best so far; its hues stand beside it in the job. An enum of its own and no `Option`: document 01 names this form, "None or Found
+// with an f32 chroma and two level indices".
 #[derive(Clone, Copy)]
 pub enum Best {
     // none so far
@@ -36,20 +35,4 @@ pub struct Job {
     // the smallest gap of these hues round the circle, in positions, the closing one included; 0 where there is none so far. Whoever
     // lends a job from before there was this field fills it in; no call does, and number 15 asks for its range alone
     pub tightest: usize,
-}
-
-// Whether a call was accepted.
-#[derive(Clone, Copy)]
-pub enum Answer {
-    // the job beside it is the new one
-    Accepted,
-    // the job beside it is the one that was lent
-    Refused(Refusal),
-}
-
-// An answer with the job after the call.
-#[derive(Clone, Copy)]
-pub struct Outcome {
-    pub answer: Answer,
-    pub job: Job,
 }

@@ -2,30 +2,16 @@
 use mathlib.Core.Path.{◌≡◌, ◌∙◌}
 use mathlib.Core.Bool.{Bool, true, false, cond}
 use mathlib.Core.List.{List, [], ◌∷◌}
-use Prim.Native.Nat.{ℕ, ◌+◌, ◌-◌, ◌/◌, ◌%◌, ◌≤◌, ◌<◌}
+use Prim.Native.Nat.{ℕ, ◌+◌, ◌-◌, ◌/◌, ◌%◌, ◌≤◌}
 use native.Mathlib.Omega.{arith}
 use lib.Dec.{ltb}
 use lib.ListN.{length, take, drop, length-drop}
 use lib.Seq.{take_all}
-use borrow.Author.Tests.{lt-ltb, le-ltb}
 use Rattle.text.specs.Put.{PutIn}
 use Rattle.text.specs.Decimal.{decimal}
 use Rattle.text.specs.Inner.{three_digits}
 
--- ---- the zeros before a number in three digits
-pub zeros_two : (n : ℕ) → n < 10 → drop 2 (three_digits n) ≡ decimal n
-unfolding decimal
-zeros_two n h = let m : n % 10 ≡ n = omega arith in rw (lt-ltb n 10 h, m)
-
-pub zeros_one : (n : ℕ) → 10 ≤ n → n < 100 → drop 1 (three_digits n) ≡ decimal n
-unfolding decimal
-zeros_one n g h = let m : n / 10 % 10 ≡ n / 10 = omega arith in rw (le-ltb n 10 g, lt-ltb n 100 h, m)
-
-pub zeros_none : (n : ℕ) → 100 ≤ n → drop 0 (three_digits n) ≡ decimal n
-unfolding decimal
-zeros_none n h = let g : 10 ≤ n = omega arith in rw (le-ltb n 10 g, le-ltb n 100 h)
-
--- the digits after them
+-- the digits after the zeros before a number in three digits
 pub puts_number : {a b : List ℕ} {at r : ℕ} (n x y z from : ℕ) → x ≡ 48 + n / 100 % 10 → y ≡ 48 + n / 10 % 10 → z ≡ 48 + n % 10 → from ≤ 2 → drop from (three_digits n) ≡ decimal n
     → PutIn a at (take (3 - from) (drop from (x ∷ y ∷ z ∷ []))) b r → PutIn a at (decimal n) b r
 puts_number n x y z from e f g h d p =

@@ -1,14 +1,15 @@
 -- Bytes put into a text: one byte, a copy, one after the other, and what the text holds where there is room for all of them. Assumes nothing.
 use mathlib.Core.Path.{◌≡◌, refl, sym, ap, ◌∙◌}
 use mathlib.Core.Bool.{Bool, true, false}
-use mathlib.Core.List.{List, [], ◌∷◌, ◌++◌, append-nil}
+use mathlib.Core.List.{List, [], ◌∷◌, ◌++◌, append-nil, append_assoc}
 use Prim.Native.Nat.{ℕ, suc, ◌+◌, ◌-◌, ◌≤◌, ◌<◌, min}
 use native.Mathlib.Nat.{add-zero, zero-add, sub-zero, min-eq_left}
 use native.Mathlib.Numerals.{add-one}
 use native.Mathlib.Omega.{arith}
 use lib.Dec.{leb, ltb}
-use lib.ListN.{length, take, drop, get_or, set, length-append, length-drop, length-set, drop_of_length-le}
-use lib.Seq.{take-nil, take_all, take_at, take-append_seam, take-suc-set, drop-set-lt, set_out, append_snoc, length-take-le, paste, paste-zero, paste-suc}
+use lib.ListN.{length, take, drop, set, length-append, length-drop, length-set, drop_of_length-le}
+use lib.Seq.{drop-drop, take-nil, take_all, take_at, take-append_seam, take-suc-set, drop-set-lt, set_out, append_snoc, length-take-le, paste, paste-zero}
+use borrow.Rule.Slice.PartMut.{put_mid}
 use borrow.Author.Tests.{leb-true, leb-false, ltb-true, ltb-false}
 use Rattle.text.specs.Put.{put_in, PutIn, over, Laid}
 
@@ -89,25 +90,28 @@ pub puts_one : (text : List ℕ) (at b : ℕ) → at < length text → PutIn tex
 puts_one text at b h = record { holds = sym (put_cons text at b [] ∙ put_nil (set text at b) (at + 1)); ends = omega arith }
 
 -- ---- a copy of as many bytes as there is room for
-module _ (text : List ℕ) (at : ℕ) (bytes copy : List ℕ) (i : ℕ) (copied : copy ≡ paste text at bytes i) where
-  pub copy_next : at + i < length text → i < length bytes → set copy (at + i) (get_or bytes i 0) ≡ paste text at bytes (i + 1)
-  copy_next h k = rw (copied, add-one i) (paste-suc text at bytes i 0 h k)
+pub puts_copy : (text : List ℕ) (at : ℕ) (bytes copied : List ℕ) (from count : ℕ) → from ≡ min at (length text) → count ≡ min (length bytes) (length text - from) → copied ≡ take count bytes
+    → PutIn text at bytes (put_mid from (from + count - from) text copied) (from + count)
+unfolding put_in
+puts_copy text at bytes copied from count f e k = record {
+  holds = rw (k, n, drop-drop count from text) (sym (append_assoc (take from text) (take count bytes) (drop (from + count) text)) ∙ go (leb (length bytes) (length text - from)) refl ∙ rw f (put_end text at bytes));
+  ends = omega arith;
+}
+  where
+    n : from + count - from ≡ count
+    n = omega arith
 
-  pub puts_copy : at < length text → i ≡ min (length bytes) (length text - at) → PutIn text at bytes copy (at + i)
-  unfolding put_in
-  puts_copy h e = record { holds = copied ∙ go (leb (length bytes) (length text - at)) refl; ends = omega arith }
-    where
-      go : (t : Bool) → leb (length bytes) (length text - at) ≡ t → paste text at bytes i ≡ take at text ++ take (length text - at) bytes ++ drop (at + length bytes) text
-      go true f =
-          let l = leb-true (length bytes) (length text - at) f in
-          let m : i ≡ length bytes = omega arith in
-          rw (m, take_all (length bytes) bytes (omega arith), take_all (length text - at) bytes l)
-      go false f =
-          let l = leb-false (length bytes) (length text - at) f in
-          let m : i ≡ length text - at = omega arith in
-          let d = past text (at + (length text - at)) (omega arith) in
-          let k = past text (at + length bytes) (omega arith) in
-          rw (m, d, k)
+    go : (t : Bool) → leb (length bytes) (length text - from) ≡ t → paste text from bytes count ≡ put_in text from bytes
+    go true g =
+        let l = leb-true (length bytes) (length text - from) g in
+        let m : count ≡ length bytes = omega arith in
+        rw (m, take_all (length bytes) bytes (omega arith), take_all (length text - from) bytes l)
+    go false g =
+        let l = leb-false (length bytes) (length text - from) g in
+        let m : count ≡ length text - from = omega arith in
+        let d = past text (from + (length text - from)) (omega arith) in
+        let k = past text (from + length bytes) (omega arith) in
+        rw (m, d, k)
 
 -- the text is as long as it was
 pub put_kept : {a b : List ℕ} {at r : ℕ} {xs : List ℕ} → PutIn a at xs b r → length b ≡ length a

@@ -2,7 +2,7 @@
 // Its cases are those of `ring` and `page_cases`.
 #![tactic(auto)]
 
-ghost use Rattle.std.specs.Prelude.{◌≡◌, [], ◌∷◌, ◌+◌, ◌≤◌, ◌<◌, min, drop};
+ghost use Rattle.std.specs.Prelude.{◌≡◌, [], ◌∷◌, ◌+◌, ◌≤◌, ◌<◌, drop};
 ghost use Rattle.text.specs.Put.{PutIn};
 ghost use Rattle.text.specs.Decimal.{decimal};
 ghost use Rattle.text.specs.Inner.{three_digits};
@@ -18,28 +18,15 @@ pub fn put_byte(text: &mut [u8], at: usize, byte: u8) -> usize
     text.len()
 }
 
-// The smaller of two counts.
-fn fewer(a: usize, b: usize) -> usize
-    ensures { result ≡ min a b }
-{
-    if a < b { a } else { b }
-}
-
 // Puts bytes at a place of a text, and gives the next place.
+#[tactic(auto, using(crate::proofs::Put::puts_copy))]
 pub fn put_bytes(text: &mut [u8], at: usize, bytes: &[u8]) -> usize
     ensures { PutIn text.old at bytes.now text.new result }
 {
-    let end = text.len();
-    if end <= at {
-        return end;
-    }
-    let count = fewer(bytes.len(), end - at);
-    let mut i = 0;
-    while i < count {
-        text[at + i] = bytes[i];
-        i += 1;
-    }
-    at + i
+    let from = at.min(text.len());
+    let count = bytes.len().min(text.len() - from);
+    text[from..from + count].copy_from_slice(&bytes[..count]);
+    from + count
 }
 
 // The byte of a digit.
@@ -51,16 +38,15 @@ fn digit(n: u16) -> u8
 }
 
 // How many zeros stand before a number in three digits, of which the last counts as none.
+#[tactic(auto, unfolding(crate::specs::Decimal::decimal))]
 fn zeros(n: u16) -> usize
     ensures { (result ≤ 2) × (drop result (three_digits n) ≡ decimal n) }
 {
-    if n < 10 {
-        return 2;
+    match n {
+        0..=9 => 2,
+        10..=99 => 1,
+        _ => 0,
     }
-    if n < 100 {
-        return 1;
-    }
-    0
 }
 
 // Puts a number in decimal, of which the last three digits count, at a place of a text, and gives the next place.
@@ -68,6 +54,5 @@ pub fn put_number(text: &mut [u8], at: usize, n: u16) -> usize
     ensures { PutIn text.old at (decimal n) text.new result }
 {
     let digits = [digit(n / 100 % 10), digit(n / 10 % 10), digit(n % 10)];
-    let from = zeros(n);
-    put_bytes(text, at, &digits[from..3])
+    put_bytes(text, at, &digits[zeros(n)..])
 }

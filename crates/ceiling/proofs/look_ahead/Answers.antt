@@ -1,59 +1,41 @@
 -- `ceiling::look_ahead` meets its contract: the check says what is refused, and the rest is the best so far with the ceiling. Assumes nothing.
 use mathlib.Core.Path.{◌≡◌, sym, ap, ◌∙◌}
 use mathlib.Core.List.{List}
+use Prim.Native.Nat.{ℕ}
 use lib.Ieee.{Float, nan}
-use Rattle.limits.specs.Answers.{Said, value, refused, pass}
-use Rattle.limits.specs.Refusals.{number, check_said}
-use Rattle.limits.specs.declared.Refusal.{Refusal}
-use Rattle.limits.specs.declared.Checked.{Checked}
-use Rattle.limits.specs.declared.Checked.TheVariants.{Fine, Wrong}
+use Rattle.std.proofs.lemmas.Result.{err_from_is_err_and}
+use Rattle.limits.specs.Answers.{value, refused, pass}
 use Rattle.limits.specs.Each.{F32}
 use Rattle.limits.proofs.Lists.{each_at}
-use Rattle.limits.proofs.Checks.{through, fine, wrong, passed}
-use Rattle.search_rules.specs.declared.Best.{Best}
+use Rattle.limits.proofs.Checks.{AllPass, all_pass, said, failing}
 use Rattle.search_rules.specs.declared.Job.{Job}
 use Rattle.ceiling_rules.specs.Ceiling.{Ceiling, ceiling_of, outlook_checked, outlook_says}
-use Rattle.ceiling_rules.proofs.Accepted.{look_checks, checked_is, Looked, look_passed}
-use Rattle.ceiling.specs.Inner.{top_said}
+use Rattle.ceiling_rules.proofs.Accepted.{look_checks, look_passed}
 use Rattle.ceiling.proofs.look_ahead.Goals as goal
 
 -- ---- by what the check found
-module _ (j : Job) (t : List Float) (r : Checked) (says : check_said r ≡ outlook_checked j t pass) where
-  abbrev good : Said (Best × Ceiling)
-  good = value (j.best, ceiling_of j t)
+module _ (j : Job) (t : List Float) where
+  refusing : (n : ℕ) → refused n ≡ outlook_checked j t pass → refused n ≡ outlook_says j t
+  unfolding outlook_says outlook_checked
+  refusing n h = sym (failing (look_checks j t) (value (j.best, ceiling_of j t)) tt n (sym h))
 
-  said : check_said r ≡ through (look_checks j t) pass
-  said = says ∙ checked_is j t pass
+  all : pass ≡ outlook_checked j t pass → AllPass (look_checks j t)
+  unfolding outlook_checked
+  all h = (all_pass (look_checks j t) pass tt (sym h)).0
 
-  refusing : (w : Refusal) → r ≡ Wrong w → outlook_says j t ≡ refused (number w)
-  unfolding outlook_says
-  refusing w f = checked_is j t good ∙ wrong (look_checks j t) r said good w f
+  passing : pass ≡ outlook_checked j t pass → value (j.best, ceiling_of j t) ≡ outlook_says j t
+  unfolding outlook_says outlook_checked
+  passing h = sym (said (look_checks j t) (value (j.best, ceiling_of j t)) (all h))
 
-  passing : r ≡ Fine → outlook_says j t ≡ good
-  unfolding outlook_says
-  passing f = checked_is j t good ∙ fine (look_checks j t) r said good f
-
-  whole : r ≡ Fine → Looked j t
-  whole f = look_passed j t (passed (look_checks j t) r said f)
-
-pub ceiling_of-top-requires : goal.ceiling_of-top-requires
-ceiling_of-top-requires c =
+pub ceiling_of-requires : goal.ceiling_of-requires
+ceiling_of-requires c =
     let a = c.args in
-    record { looked = whole a.job a.table.now c.check-checked.result c.check-checked.ensures c.in-Fine.is; f32 = each_at F32 nan a.table.now c.type_inv.table }
+    record { looked = look_passed a.job a.table.now (all a.job a.table.now c.in_ok-check.ensures); f32 = each_at F32 nan a.table.now c.type_inv.table }
 
-pub returns-in-Wrong : goal.returns-in-Wrong
-returns-in-Wrong c =
-    let a = c.args in
-    sym (refusing a.job a.table.now c.check-checked.result c.check-checked.ensures c.in-Wrong.why c.in-Wrong.is)
+pub returns-in_err-check : goal.returns-in_err-check
+returns-in_err-check c = let p = err_from_is_err_and c.from_residual.result c.from_residual.ensures.1 in rw (p.1, p.2) (refusing c.args.job c.args.table.now _ c.in_err-check.ensures)
 
-pub returns-in-Absent : goal.returns-in-Absent
-returns-in-Absent c =
+pub returns : goal.returns
+returns c =
     let a = c.args in
-    let top : top_said c.ceiling_of-top.result ≡ ceiling_of a.job a.table.now = c.ceiling_of-top.ensures in
-    ap (λ (x : Ceiling). value (a.job.best, x)) (sym (ap top_said c.in-Absent.is) ∙ top) ∙ sym (passing a.job a.table.now c.check-checked.result c.check-checked.ensures c.in-Fine.is)
-
-pub returns-in-AtMost : goal.returns-in-AtMost
-returns-in-AtMost c =
-    let a = c.args in
-    let top : top_said c.ceiling_of-top.result ≡ ceiling_of a.job a.table.now = c.ceiling_of-top.ensures in
-    ap (λ (x : Ceiling). value (a.job.best, x)) (sym (ap top_said c.in-AtMost.is) ∙ top) ∙ sym (passing a.job a.table.now c.check-checked.result c.check-checked.ensures c.in-Fine.is)
+    ap (λ (x : Ceiling). value (a.job.best, x)) c.ceiling_of.ensures ∙ passing a.job a.table.now c.in_ok-check.ensures

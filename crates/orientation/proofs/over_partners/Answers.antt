@@ -1,10 +1,9 @@
 -- `orientation::over_partners` meets its contract. Where the fixed hue itself has too little, no partner changes anything; else the loop keeps the turns that are left from the best so
 -- far. Assumes nothing.
 use mathlib.Core.Path.{◌≡◌, refl, sym, ap, ◌∙◌}
-use mathlib.Core.Bool.{Bool, true, false}
+use mathlib.Core.Bool.{true, false}
 use mathlib.Core.List.{List, [], ◌∷◌}
 use Prim.Native.Nat.{ℕ, ◌+◌, ◌%◌}
-use native.Mathlib.Omega.{arith}
 use lib.Ieee.{Float}
 use Rattle.gamut.specs.Table.{row_at}
 use Rattle.pair_rules.specs.Rows.{lesser, value_at}
@@ -19,10 +18,6 @@ use Rattle.orientation.proofs.over_partners.Goals.{then-replaces, else-replaces}
 
 abbrev rows : List Float → ℕ → ℕ → List (List Float)
 rows t d l = row_at t d ∷ row_at t l ∷ []
-
--- the fixed hue itself has too little
-too_little : (so : Best) (own value : Float) (enough : Bool) → own ≡ value → enough ≡ replaces own so → enough ≡ false → replaces value so ≡ false
-too_little so own value enough e f g = sym (ap (λ (x : Float). replaces x so) e) ∙ sym f ∙ g
 
 -- one partner, by what it has with the fixed hue
 module _ (t : List Float) (hue d l on : ℕ) where
@@ -43,30 +38,18 @@ module _ (t : List Float) (hue d l on : ℕ) where
 abbrev turn : List Float → ℕ → ℕ → ℕ → ℕ → Best → Best
 turn t hue d l = λ on. tried_with t hue d l (partner_at hue on)
 
-pub value_at-own-requires : goal.value_at-own-requires
-value_at-own-requires c = c.requires.there
-
 pub returns-then-not-replaces : goal.returns-then-not-replaces
 returns-then-not-replaces c =
     let a = c.args in
     let there = c.requires.there in
     let t = a.table.now in
-    let so = best_of a.kept in
-    let little = too_little so c.value_at-own.result (value_at (rows t a.dark a.light) a.hue) c.replaces.result c.value_at-own.ensures c.replaces.ensures c.if-not-replaces.true in
+    let so = best_of a.best in
+    let little = ap (λ (x : Float). replaces x so) (sym c.value_at-own.ensures) ∙ sym c.replaces.ensures ∙ c.if-not-replaces.true in
     sym (skipped t c.requires.good a.hue a.dark a.light there.hue_in there.dark_in there.light_in so c.requires.reached little)
 
 pub loop-on-init : goal.loop-on-init
 unfolding over_partners
-loop-on-init c = (omega arith, omega arith, refl)
-
-pub overflow_add-partner : goal.overflow_add-partner
-overflow_add-partner c = let h = c.requires.there.hue_in in omega arith
-
-pub value_at-requires : goal.value_at-requires
-value_at-requires c =
-    let there = c.requires.there in
-    let on = c.loop-on.on in
-    record { long = there.long; few_levels = there.few_levels; dark_in = there.dark_in; light_in = there.light_in; hue_in = omega arith }
+loop-on-init c = refl
 
 pub loop-on-preserved : goal.loop-on-preserved
 loop-on-preserved c =
@@ -75,21 +58,14 @@ loop-on-preserved c =
     let on = c.loop-on.on in
     let so = best_of c.loop-on.best in
     let chroma = c.lesser-chroma.result in
-    let inside = c.loop-on-test.true in
     let is = shared t a.hue a.dark a.light on c.value_at-own.result c.value_at.result chroma c.value_at-own.ensures c.value_at.ensures c.lesser-chroma.ensures in
-    let next : best_of c.if-replaces.best ≡ tried_with t a.hue a.dark a.light (partner_at a.hue on) so =
-    elim c.if-replaces.branch [
+    let next : best_of c.if-replaces.best ≡ turn t a.hue a.dark a.light on so = elim c.if-replaces.branch [
       | then-replaces w ↦ ap best_of w.best-is ∙ better t a.hue a.dark a.light on so chroma is (sym c.replaces-in-loop-on.ensures ∙ w.if-replaces.true)
       | else-replaces w ↦ ap best_of w.best-is ∙ worse t a.hue a.dark a.light on so chroma is (sym c.replaces-in-loop-on.ensures ∙ w.if-replaces.false)
-    ] in (
-      omega arith,
-      omega arith,
-      one_taken (turn t a.hue a.dark a.light) 420 on so (best_of c.if-replaces.best) (over_partners t a.hue a.dark a.light (best_of a.kept)) (omega arith) next c.loop-on.invariant.2,
-    )
+    ] in
+    one_taken (turn t a.hue a.dark a.light) 420 on so (best_of c.if-replaces.best) (over_partners t a.hue a.dark a.light (best_of a.best)) c.loop-on-test.true next c.loop-on.invariant
 
 pub returns : goal.returns
 returns c =
     let a = c.args in
-    let t = a.table.now in
-    let end = c.loop-on-test.false in
-    all_taken (turn t a.hue a.dark a.light) 420 c.loop-on.on (best_of c.loop-on.best) (over_partners t a.hue a.dark a.light (best_of a.kept)) (omega arith) c.loop-on.invariant.2
+    all_taken (turn a.table.now a.hue a.dark a.light) 420 c.loop-on.on (best_of c.loop-on.best) (over_partners a.table.now a.hue a.dark a.light (best_of a.best)) c.loop-on-test.false c.loop-on.invariant

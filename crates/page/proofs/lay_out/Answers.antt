@@ -4,24 +4,20 @@ use mathlib.Core.Bool.{true}
 use lib.ListN.{length}
 use borrow.Author.Rules.{rules}
 use Rattle.search_rules.specs.Job.{unbroken}
-use Rattle.page.proofs.Laying.{within, lays_broken, lays_short, lays_page}
-use Rattle.page.proofs.Rows.{few}
+use Rattle.page.proofs.Laying.{lays_broken, lays_short, lays_page}
 use Rattle.page.proofs.lay_out.Goals as goal
 
 pub returns-then-not-is_unbroken : goal.returns-then-not-is_unbroken
 returns-then-not-is_unbroken c = lays_broken _ _ (sym c.is_unbroken.ensures ∙ c.if-not-is_unbroken.true)
 
-pub bytes_with-requires : goal.bytes_with-requires
-bytes_with-requires c = few _ (let it : unbroken c.args.job ≡ true = sym c.is_unbroken.ensures ∙ c.if-not-is_unbroken.false in it)
-
 pub returns-then-page-bytes_with : goal.returns-then-page-bytes_with
 returns-then-page-bytes_with c =
-    lays_short _ _ (let it : length c.args.job.hues ≡ 16 = search rules in it) (let it : unbroken c.args.job ≡ true = sym c.is_unbroken.ensures ∙ c.if-not-is_unbroken.false in it) (rw c.bytes_with.ensures at c.if-page-bytes_with.true)
-
-pub put_page-requires : goal.put_page-requires
-put_page-requires c =
-    (few _ (let it : unbroken c.args.job ≡ true = sym c.is_unbroken.ensures ∙ c.if-not-is_unbroken.false in it), within _ (let it : unbroken c.args.job ≡ true = sym c.is_unbroken.ensures ∙ c.if-not-is_unbroken.false in it))
+    let long : length c.args.job.hues ≡ 16 = search rules in
+    let whole : unbroken c.args.job ≡ true = sym c.is_unbroken.ensures ∙ c.if-not-is_unbroken.false in
+    lays_short _ _ long whole (rw c.bytes_with.ensures at c.if-page-bytes_with.true)
 
 pub returns : goal.returns
 returns c =
-    lays_page _ _ (let it : length c.args.job.hues ≡ 16 = search rules in it) (let it : unbroken c.args.job ≡ true = sym c.is_unbroken.ensures ∙ c.if-not-is_unbroken.false in it) (rw c.bytes_with.ensures at c.if-page-bytes_with.false) c.put_page.ensures
+    let long : length c.args.job.hues ≡ 16 = search rules in
+    let whole : unbroken c.args.job ≡ true = sym c.is_unbroken.ensures ∙ c.if-not-is_unbroken.false in
+    lays_page _ _ long whole (rw c.bytes_with.ensures at c.if-page-bytes_with.false) c.put_page.ensures

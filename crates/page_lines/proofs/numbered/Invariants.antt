@@ -2,8 +2,5 @@
 use Rattle.page_lines.proofs.Line.{Writing}
 use Rattle.page_lines.proofs.numbered.Given as goal
 
-abbrev pub invariant-loop-rest : goal.invariant-loop-rest
-invariant-loop-rest l = Writing l.initial.to l.n l.to l.rest l.at
-
-abbrev pub decreases-loop-rest : goal.decreases-loop-rest
-decreases-loop-rest l = l.rest
+abbrev pub invariant-loop-at : goal.invariant-loop-at
+invariant-loop-at l = Writing l.initial.to l.n l.to l.rest l.at

@@ -1,24 +1,24 @@
 -- `pair::best_for_row` meets its contract: the check says what is refused, and `from_floor` the rest. Assumes nothing.
-use mathlib.Core.Path.{refl, sym, ap, ◌∙◌, subst}
+use mathlib.Core.Path.{refl, sym}
 use lib.ListN.{length}
-use Rattle.limits.specs.Refusals.{check_said}
+use Rattle.std.proofs.lemmas.Result.{err_from_is_err_and}
 use Rattle.limits.proofs.Checks.{said_twice}
-use Rattle.pair_rules.specs.Pair.{Gives}
+use Rattle.pair_rules.proofs.Gaps.{gives_same, gives_refused}
 use Rattle.pair.proofs.Checking.{one_refusing, one_passing}
 use Rattle.pair.proofs.best_for_row.Goals as goal
 
-pub from_floor-requires : goal.from_floor-requires
-from_floor-requires c =
-    record { fine = sym c.check-checked.ensures ∙ ap check_said c.in-Fine.is; top = c.largest.ensures }
-
-pub returns-in-Wrong : goal.returns-in-Wrong
-returns-in-Wrong c =
+pub returns-in_err-check-clause-gives : goal.returns-in_err-check-clause-gives
+returns-in_err-check-clause-gives c =
     let a = c.args in
-    let e = one_refusing a.k a.step a.floor a.row.now (length a.work.now) c.check-checked.result c.check-checked.ensures c.in-Wrong.refusal c.in-Wrong.is in
-    record { gives = subst (Gives (length a.row.now) a.k _) (sym e) (record { says = refl; beside = refl; tightest_is = refl }); untouched = λ w again. refl }
+    let p = err_from_is_err_and c.from_residual.result c.from_residual.ensures.1 in
+    rw (p.1, p.2) (gives_refused (one_refusing a.k a.step a.floor a.row.now (length a.work.now) _ (sym c.in_err-check.ensures)))
 
-pub returns-in-Fine : goal.returns-in-Fine
-returns-in-Fine c =
+pub returns-clause-gives : goal.returns-clause-gives
+returns-clause-gives c =
     let a = c.args in
-    let e = one_passing a.k a.step a.floor a.row.now (length a.work.now) c.check-checked.result c.check-checked.ensures c.in-Fine.is in
-    record { gives = subst (Gives (length a.row.now) a.k c.from_floor.result) (sym e) c.from_floor.ensures; untouched = λ w again. said_twice e again }
+    gives_same refl (sym (one_passing a.k a.step a.floor a.row.now (length a.work.now) (sym c.in_ok-check.ensures))) c.from_floor.ensures
+
+pub returns-clause-untouched : goal.returns-clause-untouched
+returns-clause-untouched c =
+    let a = c.args in
+    λ w again. said_twice (one_passing a.k a.step a.floor a.row.now (length a.work.now) (sym c.in_ok-check.ensures)) again

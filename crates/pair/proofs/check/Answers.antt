@@ -1,19 +1,17 @@
 -- `pair::check` meets its contract: unequal rows are refused as a row without entries is, and equal ones by what the second or else the first is. Assumes nothing.
-use mathlib.Core.Path.{refl}
+use mathlib.Core.Path.{sym, ◌∙◌}
+use Rattle.std.proofs.lemmas.Result.{err_from_is_err_and}
 use Rattle.pair.proofs.Checking.{unequal, second_refused, first_says}
 use Rattle.pair.proofs.check.Goals as goal
 
 pub returns-then-a-b : goal.returns-then-a-b
-returns-then-a-b c =
-    let a = c.args in
-    unequal a.k a.step a.floor a.a.now a.b.now a.room c.check.result _ c.if-a-b.true refl c.check.ensures
+returns-then-a-b c = let a = c.args in c.check.ensures ∙ unequal a.k a.step a.floor a.a.now a.b.now a.room c.if-a-b.true
 
-pub returns-in-Wrong : goal.returns-in-Wrong
-returns-in-Wrong c =
+pub returns-in_err-check : goal.returns-in_err-check
+returns-in_err-check c =
     let a = c.args in
-    second_refused a.k a.step a.floor a.a.now a.b.now a.room c.if-a-b.false c.check-second.result c.check-second.ensures c.in-Wrong.why c.in-Wrong.is
+    let p = err_from_is_err_and c.from_residual.result c.from_residual.ensures.1 in
+    rw (p.1, p.2) (sym (second_refused a.k a.step a.floor a.a.now a.b.now a.room c.if-a-b.false _ (sym c.in_err-check.ensures)))
 
-pub returns-in-Fine : goal.returns-in-Fine
-returns-in-Fine c =
-    let a = c.args in
-    first_says a.k a.step a.floor a.a.now a.b.now a.room c.if-a-b.false c.check-second.result c.check-second.ensures c.check-in-Fine.result c.in-Fine.is c.check-in-Fine.ensures
+pub returns : goal.returns
+returns c = let a = c.args in c.check-3.ensures ∙ first_says a.k a.step a.floor a.a.now a.b.now a.room c.if-a-b.false (sym c.in_ok-check.ensures)

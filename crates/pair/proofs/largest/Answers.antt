@@ -1,7 +1,6 @@
--- `pair::largest` meets its contract. The invariant: the largest of the values from i on and the largest so far is the largest of all. Assumes nothing.
+-- `pair::largest` meets its contract. The invariant: the largest of the values that are left and the largest so far is the largest of all. Assumes nothing.
 use mathlib.Core.Path.{◌≡◌, refl, ap, ◌∙◌}
 use Prim.Native.Nat.{◌+◌}
-use native.Mathlib.Omega.{arith}
 use lib.Ieee.{Float, nan, of_bits, of_int}
 use lib.ListN.{get_or, drop}
 use Rattle.pair_rules.specs.Rows.{greater, largest_from, largest}
@@ -9,20 +8,17 @@ use Rattle.pair_rules.proofs.Rows.{largest_next, largest_done}
 use Rattle.pair.proofs.largest.Goals as goal
 use Rattle.pair.proofs.largest.Goals.{then-most-value, else-most-value}
 
-pub loop-i-init : goal.loop-i-init
+pub loop-value-init : goal.loop-value-init
 unfolding largest of_bits of_int
-loop-i-init c = (omega arith, refl)
+loop-value-init c = refl
 
-pub loop-i-preserved : goal.loop-i-preserved
+pub loop-value-preserved : goal.loop-value-preserved
 unfolding greater
-loop-i-preserved c =
-    let l = c.before.before.before in
-    let row = l.args.row.now in
-    let i = l.loop-i.i in
-    let so : c.if-most-value.most ≡ greater l.loop-i.most (get_or row i nan) = elim c.if-most-value.branch [ then-most-value t ↦ rw (t.most-is, t.if-most-value.true) | else-most-value t ↦ rw (t.most-is, t.if-most-value.false) ] in
-    (omega arith, ap (λ (x : Float). largest_from x (drop (i + 1) row)) so ∙ largest_next row l.loop-i.most i l.loop-i.invariant.1 c.loop-i-test.true)
+loop-value-preserved c =
+    let row = c.args.row.now in
+    let l = c.loop-value in
+    let so : c.if-most-value.most ≡ greater l.most (get_or row l.value-index nan) = elim c.if-most-value.branch [ then-most-value t ↦ rw (t.most-is, t.if-most-value.true) | else-most-value t ↦ rw (t.most-is, t.if-most-value.false) ] in
+    ap (λ (x : Float). largest_from x (drop (l.value-index + 1) row)) so ∙ largest_next row l.most l.value-index l.invariant c.loop-value-test.true
 
 pub returns : goal.returns
-returns c =
-    let l = c.before in
-    largest_done l.args.row.now l.loop-i.most l.loop-i.i l.loop-i.invariant.1 c.loop-i-test.false
+returns c = largest_done c.args.row.now c.loop-value.most c.loop-value.value-index c.loop-value.invariant c.loop-value-test.false

@@ -1,7 +1,7 @@
--- `patterns::float_of` meets its contract: a NaN's pattern stands for the NaN, which zero by zero is too. Assumes nothing.
+-- `patterns::float_of` meets its contract: a NaN's pattern stands for the NaN. Assumes nothing.
 use mathlib.Core.Path.{◌≡◌, refl, sym, ◌∙◌}
 use mathlib.Core.Bool.{true}
-use lib.Ieee.{Float, nan, inf, fin, binary32, of_bits, div, is_nan}
+use lib.Ieee.{Float, nan, inf, fin, binary32, of_bits, is_nan}
 use lib.Ieee.Bits.{nan_bits_is}
 use Rattle.patterns.proofs.float_of.Goals as goal
 
@@ -13,8 +13,5 @@ nan_is (inf s) e = cc
 nan_is (fin s m k) e = cc
 
 pub returns-then-is_nan_pattern : goal.returns-then-is_nan_pattern
-unfolding of_bits div
+unfolding of_bits
 returns-then-is_nan_pattern c = nan_is _ (sym (c.is_nan_pattern.ensures ∙ nan_bits_is binary32 _) ∙ c.if-is_nan_pattern.true)
-
-pub float_from_bits-result : goal.float_from_bits-result
-float_from_bits-result c = rw (← c.is_nan_pattern.ensures, c.if-is_nan_pattern.false) tt

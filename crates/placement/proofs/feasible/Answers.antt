@@ -2,26 +2,39 @@
 use mathlib.Core.Path.{refl, sym, subst}
 use native.Mathlib.Omega.{arith}
 use lib.ListN.{length}
+use Rattle.std.proofs.lemmas.Result.{err_from_is_err_and}
 use Rattle.limits.proofs.Checks.{said_twice}
 use Rattle.placement_rules.specs.Placing.{work_needed, Gives}
+use Rattle.placement.proofs.Placing.{given}
 use Rattle.placement.proofs.Checking.{asked, passed, placing, refusing}
 use Rattle.placement.proofs.feasible.Goals as goal
+
+pub returns-in_err-check-clause-gives : goal.returns-in_err-check-clause-gives
+returns-in_err-check-clause-gives c =
+    let a = c.args in
+    let p = err_from_is_err_and c.from_residual.result c.from_residual.ensures.1 in
+    let e = refusing a.k a.step a.c a.m.now (length a.work.now) c.check.result _ (c.in_err-check.was) c.check.ensures in
+    rw (p.1, p.2, e) (record { says = refl; tightest_is = refl })
+
+pub invariant_of-ring : goal.invariant_of-ring
+invariant_of-ring c =
+    let a = c.args in
+    record { asked = (asked a.k a.step a.c a.m.now (length a.work.now) (passed a.k a.step a.c a.m.now (length a.work.now) c.check.result c.in_ok-check.was c.check.ensures)).0 }
 
 pub place-requires : goal.place-requires
 unfolding work_needed
 place-requires c =
     let a = c.args in
-    let fine = asked a.k a.step a.c a.m.now (length a.work.now) (passed a.k a.step a.c a.m.now (length a.work.now) c.check-checked.result c.in-Fine.is c.check-checked.ensures) in
-    (fine.0, omega (arith, fine.1))
+    let room = (asked a.k a.step a.c a.m.now (length a.work.now) (passed a.k a.step a.c a.m.now (length a.work.now) c.check.result c.in_ok-check.was c.check.ensures)).1 in
+    omega (arith, room)
 
-pub returns-in-Wrong : goal.returns-in-Wrong
-returns-in-Wrong c =
+pub returns-clause-gives : goal.returns-clause-gives
+returns-clause-gives c =
     let a = c.args in
-    let e = refusing a.k a.step a.c a.m.now (length a.work.now) c.check-checked.result c.in-Wrong.why c.in-Wrong.is c.check-checked.ensures in
-    record { gives = subst (Gives (length a.m.now) a.k _) (sym e) (record { says = refl; beside = refl; tightest_is = refl }); untouched = λ w again. refl }
+    let e = placing a.k a.step a.c a.m.now (length a.work.now) c.check.result (c.in_ok-check.was) c.check.ensures in
+    subst (Gives (length a.m.now) a.k _) (sym e) (given c.place.ensures)
 
-pub returns-in-Fine : goal.returns-in-Fine
-returns-in-Fine c =
+pub returns-clause-untouched : goal.returns-clause-untouched
+returns-clause-untouched c =
     let a = c.args in
-    let e = placing a.k a.step a.c a.m.now (length a.work.now) c.check-checked.result c.in-Fine.is c.check-checked.ensures in
-    record { gives = subst (Gives (length a.m.now) a.k c.place.result) (sym e) c.place.ensures; untouched = λ w again. said_twice e again }
+    λ w again. said_twice (placing a.k a.step a.c a.m.now (length a.work.now) c.check.result (c.in_ok-check.was) c.check.ensures) again

@@ -1,11 +1,7 @@
 -- `placement::tightest` meets its contract. The invariant: what is least so far is the smallest gap from the hue at `at` on. Assumes nothing.
 use mathlib.Core.Path.{◌≡◌}
-use Prim.Native.Nat.{◌<◌}
 use Rattle.placement.proofs.Gaps.{from}
 use Rattle.placement.proofs.tightest.Given as goal
 
 abbrev pub invariant-loop-at : goal.invariant-loop-at
-invariant-loop-at l = (l.at < l.k) × (l.least ≡ from l.n l.k l.hues l.at)
-
-abbrev pub decreases-loop-at : goal.decreases-loop-at
-decreases-loop-at l = l.at
+invariant-loop-at l = l.least ≡ from l.n l.k l.hues l.at

@@ -1,5 +1,4 @@
 -- `ring_answers::place` meets its contract: the work buffer is as long as number 8 asks. Assumes nothing.
-use native.Mathlib.Nat.{sub-zero}
 use native.Mathlib.Omega.{arith}
 use Rattle.placement_rules.specs.Placing.{work_needed}
 use Rattle.ring_answers.proofs.Answering.{in_room}
@@ -7,4 +6,4 @@ use Rattle.ring_answers.proofs.place.Goals as goal
 
 pub returns : goal.returns
 unfolding work_needed
-returns c = in_room _ _ _ _ _ (omega arith) (rw sub-zero at c.feasible.ensures.gives.says)
+returns c = in_room _ _ _ _ _ (omega arith) c.feasible.ensures.gives.says

@@ -1,32 +1,32 @@
 -- `ring_reading::head_of` meets its contract: the numbers that were found, one more at each step. Assumes nothing.
 use native.Mathlib.Omega.{arith}
-use Rattle.ring_reading.proofs.Shape.{begins, begins_next, begins_missing, begins_entries, below}
+use Rattle.ring_reading.proofs.Shape.{begins, begins_next, begins_missing, begins_entries}
 use Rattle.ring_reading.proofs.head_of.Goals as goal
 
-pub returns-in_default : goal.returns-in_default
-returns-in_default c = begins_missing (begins _) c.number_at.ensures (omega arith) c.in_default.is
+pub returns-in_err-length : goal.returns-in_err-length
+returns-in_err-length c = rw c.from_residual.ensures (begins_missing (begins _) (omega arith) c.in_err-length.ensures)
 
-pub returns-in_default-number_at : goal.returns-in_default-number_at
-returns-in_default-number_at c =
-    let one = begins_next (begins _) c.number_at.ensures c.in-Number.is in
-    begins_missing one c.number_at-2.ensures (omega arith) c.in_default-number_at.is
+pub returns-in_err-k : goal.returns-in_err-k
+returns-in_err-k c =
+    let one = begins_next (begins _) _ c.in_ok-length.ensures in
+    rw c.from_residual-in_err-k.ensures (begins_missing one (omega arith) c.in_err-k.ensures)
 
-pub returns-in_default-number_at-2 : goal.returns-in_default-number_at-2
-returns-in_default-number_at-2 c =
-    let one = begins_next (begins _) c.number_at.ensures c.in-Number.is in
-    let two = begins_next one c.number_at-2.ensures c.in-Number-number_at.is in
-    begins_missing two c.number_at-3.ensures (omega arith) c.in_default-number_at-2.is
+pub returns-in_err-step : goal.returns-in_err-step
+returns-in_err-step c =
+    let one = begins_next (begins _) _ c.in_ok-length.ensures in
+    let two = begins_next one _ c.in_ok-k.ensures in
+    rw c.from_residual-in_err-step.ensures (begins_missing two (omega arith) c.in_err-step.ensures)
 
-pub returns-in_default-number_at-3 : goal.returns-in_default-number_at-3
-returns-in_default-number_at-3 c =
-    let one = begins_next (begins _) c.number_at.ensures c.in-Number.is in
-    let two = begins_next one c.number_at-2.ensures c.in-Number-number_at.is in
-    let three = begins_next two c.number_at-3.ensures c.in-Number-number_at-2.is in
-    begins_missing three c.number_at-4.ensures (omega arith) c.in_default-number_at-3.is
+pub returns-in_err-c : goal.returns-in_err-c
+returns-in_err-c c =
+    let one = begins_next (begins _) _ c.in_ok-length.ensures in
+    let two = begins_next one _ c.in_ok-k.ensures in
+    let three = begins_next two _ c.in_ok-step.ensures in
+    rw c.from_residual-in_err-c.ensures (begins_missing three (omega arith) c.in_err-c.ensures)
 
 pub returns : goal.returns
 returns c =
-    let one = begins_next (begins _) c.number_at.ensures c.in-Number.is in
-    let two = begins_next one c.number_at-2.ensures c.in-Number-number_at.is in
-    let three = begins_next two c.number_at-3.ensures c.in-Number-number_at-2.is in
-    (below _ _ c.in-Number.is c.number_at.ensures, begins_entries (begins_next three c.number_at-4.ensures c.in-Number-number_at-3.is))
+    let one = begins_next (begins _) _ c.in_ok-length.ensures in
+    let two = begins_next one _ c.in_ok-k.ensures in
+    let three = begins_next two _ c.in_ok-step.ensures in
+    (c.in_ok-length.ensures.0, begins_entries (begins_next three _ c.in_ok-c.ensures))
