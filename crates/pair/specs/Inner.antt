@@ -17,12 +17,7 @@ use Rattle.pair.specs.declared.Bracket.{Bracket}
 abbrev pub Taken : ℕ → ℕ → Float → List (List Float) → ℕ → Type 0
 Taken k step floor rows room = rows_checked k step floor rows room pass ≡ pass
 
--- a row that placement takes at the floor, with its largest value
-pub record Lent (k step : ℕ) (floor most : Float) (row : List Float) (room : ℕ) : Type 0 where
-  pub fine : checked k step floor row room pass ≡ pass
-  pub top : most ≡ largest row
-
--- the same where that is not below the floor
+-- a row that placement takes at the floor, with its largest value, which is not below the floor
 pub record Ready (k step : ℕ) (floor most : Float) (row : List Float) (room : ℕ) : Type 0 where
   pub fine : checked k step floor row room pass ≡ pass
   pub top : most ≡ largest row

@@ -8,7 +8,7 @@ ghost use Rattle.limits.specs.Refusals.{said};
 ghost use Rattle.placement_rules.specs.Placing.{checked};
 ghost use Rattle.pair_rules.specs.Rows.{least_row, largest};
 ghost use Rattle.pair_rules.specs.Pair.{best_over, rows_checked, rows_say, pair_says, Gives};
-ghost use Rattle.pair.specs.Inner.{Taken, Lent, Ready, There, Tried, Stands, Turned, IsBest};
+ghost use Rattle.pair.specs.Inner.{Taken, Ready, There, Tried, Stands, Turned, IsBest};
 
 use limits::Refusal;
 pub use pair_rules::Chosen;
@@ -51,14 +51,6 @@ fn lesser_row(a: &[f32], b: &[f32], row: &mut [f32]) -> f32
     most
 }
 
-// What is placed at a chroma at which the row is taken, so that it is not refused.
-fn place(row: &[f32], c: f32, k: usize, step: usize, work: &mut [u16]) -> Option<Placement>
-    requires { checked k step c row.now (length work.old) pass ≡ pass }
-    ensures { Tried k step row.now c result }
-{
-    placement::feasible(row, c, k, step, work).unwrap()
-}
-
 // Where a halving stands.
 #[derive(Clone, Copy)]
 struct Bracket {
@@ -69,94 +61,93 @@ struct Bracket {
     placed: Placement,
 }
 
-// One round, or none where all rounds that are left would change nothing: where the midpoint is an end and moves nothing, no round
-// after it moves anything.
-fn turn(row: &[f32], k: usize, step: usize, at: Bracket, work: &mut [u16]) -> Option<Bracket>
-    requires { Stands k step row.now (length work.old) at }
-    ensures { Turned k step row.now at result }
-{
-    let mid = halving::midpoint(at.lo, at.hi);
-    if mid.to_bits() == at.lo.to_bits() {
-        return None;
-    }
-    if let Some(placed) = place(row, mid, k, step, work) {
-        return Some(Bracket {
-            lo: mid,
-            placed,
-            ..at
-        });
-    }
-    if mid.to_bits() == at.hi.to_bits() {
-        return None;
-    }
-    Some(Bracket { hi: mid, ..at })
-}
-
-// The best from a floor at which these hues are placed.
-fn rounds(
-    row: &[f32],
+// A climb over a row of values, from a floor towards the largest of them, for so many hues so far apart.
+#[derive(Clone, Copy)]
+struct Climb<'a> {
+    row: &'a [f32],
     k: usize,
     step: usize,
     floor: f32,
     most: f32,
-    first: Placement,
-    work: &mut [u16],
-) -> Chosen
-    requires ready { Ready k step floor most row.now (length work.old) }
-    requires there { There k step row.now floor first }
-    ensures { IsBest k step floor row.now (Some result) }
-{
-    let mut at = Bracket {
-        lo: floor,
-        hi: most,
-        placed: first,
-    };
-    for _ in 0..30u32 {
-        let Some(next) = turn(row, k, step, at, work) else {
-            break;
+    ghost top: { most ≡ largest row.now },
+}
+
+impl Climb<'_> {
+    // What is placed at a chroma at which the row is taken, so that it is not refused.
+    fn place(self, c: f32, work: &mut [u16]) -> Option<Placement>
+        requires { checked self.k self.step c self.row.now (length work.old) pass ≡ pass }
+        ensures { Tried self.entry.k self.entry.step self.entry.row.now c result }
+    {
+        placement::feasible(self.row, c, self.k, self.step, work).unwrap()
+    }
+
+    // One round, or none where all rounds that are left would change nothing: where the midpoint is an end and moves nothing, no round
+    // after it moves anything.
+    fn turn(self, at: Bracket, work: &mut [u16]) -> Option<Bracket>
+        requires { Stands self.k self.step self.row.now (length work.old) at }
+        ensures { Turned self.entry.k self.entry.step self.entry.row.now at result }
+    {
+        let mid = halving::midpoint(at.lo, at.hi);
+        if mid.to_bits() == at.lo.to_bits() {
+            return None;
+        }
+        if let Some(placed) = self.place(mid, work) {
+            return Some(Bracket {
+                lo: mid,
+                placed,
+                ..at
+            });
+        }
+        if mid.to_bits() == at.hi.to_bits() {
+            return None;
+        }
+        Some(Bracket { hi: mid, ..at })
+    }
+
+    // The best from the floor, at which these hues are placed.
+    fn rounds(self, first: Placement, work: &mut [u16]) -> Chosen
+        requires ready { Ready self.k self.step self.floor self.most self.row.now (length work.old) }
+        requires there { There self.k self.step self.row.now self.floor first }
+        ensures { IsBest self.entry.k self.entry.step self.entry.floor self.entry.row.now (Some result) }
+    {
+        let mut at = Bracket {
+            lo: self.floor,
+            hi: self.most,
+            placed: first,
         };
-        at = next;
+        for _ in 0..30u32 {
+            let Some(next) = self.turn(at, work) else {
+                break;
+            };
+            at = next;
+        }
+        let Placement { hues, tightest } = at.placed;
+        Chosen {
+            chroma: at.lo,
+            hues,
+            tightest,
+        }
     }
-    let Placement { hues, tightest } = at.placed;
-    Chosen {
-        chroma: at.lo,
-        hues,
-        tightest,
-    }
-}
 
-// The best over a row of values whose largest is `most`, from a floor.
-fn climb(
-    row: &[f32],
-    k: usize,
-    step: usize,
-    floor: f32,
-    most: f32,
-    work: &mut [u16],
-) -> Option<Chosen>
-    requires { Ready k step floor most row.now (length work.old) }
-    ensures { IsBest k step floor row.now result }
-{
-    let first = place(row, floor, k, step, work)?;
-    Some(rounds(row, k, step, floor, most, first, work))
-}
-
-// The same, where the largest may be below the floor.
-fn from_floor(
-    row: &[f32],
-    k: usize,
-    step: usize,
-    floor: f32,
-    most: f32,
-    work: &mut [u16],
-) -> Option<Chosen>
-    requires { Lent k step floor most row.now (length work.old) }
-    ensures { IsBest k step floor row.now result }
-{
-    if most < floor {
-        return None;
+    // The best from the floor, where the largest is not below it.
+    fn above(self, work: &mut [u16]) -> Option<Chosen>
+        requires { Ready self.k self.step self.floor self.most self.row.now (length work.old) }
+        ensures { IsBest self.entry.k self.entry.step self.entry.floor self.entry.row.now result }
+    {
+        let first = self.place(self.floor, work)?;
+        Some(self.rounds(first, work))
     }
-    climb(row, k, step, floor, most, work)
+
+    // The best from the floor.
+    fn best(self, work: &mut [u16]) -> Option<Chosen>
+        requires { checked self.k self.step self.floor self.row.now (length work.old) pass ≡ pass }
+        ensures { IsBest self.entry.k self.entry.step self.entry.floor self.entry.row.now result }
+    {
+        if self.most < self.floor {
+            return None;
+        }
+        self.above(work)
+    }
 }
 
 // The best of two rows that are taken.
@@ -167,7 +158,14 @@ fn best(a: &[f32], b: &[f32], k: usize, step: usize, floor: f32, work: &mut [u16
     let mut least = [0.0; 720];
     let row = &mut least[..a.len()];
     let most = lesser_row(a, b, row);
-    from_floor(row, k, step, floor, most, work)
+    let climb = Climb {
+        row,
+        k,
+        step,
+        floor,
+        most,
+    };
+    climb.best(work)
 }
 
 // The best chroma from a floor up at which k hues, at least `step` apart all round, have an entry of at least it in both rows, by
@@ -214,5 +212,12 @@ pub fn best_for_row(
     ensures untouched { Untouched (rows_say k step floor (row.now ∷ []) (length work.old)) work.old work.new }
 {
     placement_checks::check(row, floor, k, step, work.len())?;
-    Ok(from_floor(row, k, step, floor, largest(row), work))
+    let climb = Climb {
+        row,
+        k,
+        step,
+        floor,
+        most: largest(row),
+    };
+    Ok(climb.best(work))
 }

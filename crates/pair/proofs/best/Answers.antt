@@ -33,8 +33,7 @@ lesser_row-most-requires c =
     let e = front a.k a.step a.floor a.a.now a.b.now (length a.work.now) c.requires _ in
     (e, same a.k a.step a.floor a.a.now a.b.now (length a.work.now) c.requires ∙ e)
 
-pub from_floor-requires : goal.from_floor-requires
-from_floor-requires c =
+pub best-requires : goal.best-requires
+best-requires c =
     let a = c.args in
-    let e = c.lesser_row-most.ensures in
-    record { fine = rw e.0 (least_checked a.k a.step a.floor (a.a.now ∷ a.b.now ∷ []) (length a.work.now) c.requires); top = e.1 }
+    rw c.lesser_row-most.ensures.0 (least_checked a.k a.step a.floor (a.a.now ∷ a.b.now ∷ []) (length a.work.now) c.requires)

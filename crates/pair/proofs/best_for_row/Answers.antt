@@ -1,4 +1,4 @@
--- `pair::best_for_row` meets its contract: the check says what is refused, and `from_floor` the rest. Assumes nothing.
+-- `pair::best_for_row` meets its contract: the check says what is refused, and `Climb::best` the rest. Assumes nothing.
 use mathlib.Core.Path.{refl, sym}
 use lib.ListN.{length}
 use Rattle.std.proofs.lemmas.Result.{err_from_is_err_and}
@@ -16,7 +16,7 @@ returns-in_err-check-clause-gives c =
 pub returns-clause-gives : goal.returns-clause-gives
 returns-clause-gives c =
     let a = c.args in
-    gives_same refl (sym (one_passing a.k a.step a.floor a.row.now (length a.work.now) (sym c.in_ok-check.ensures))) c.from_floor.ensures
+    gives_same refl (sym (one_passing a.k a.step a.floor a.row.now (length a.work.now) (sym c.in_ok-check.ensures))) c.best.ensures
 
 pub returns-clause-untouched : goal.returns-clause-untouched
 returns-clause-untouched c =

@@ -1,7 +1,7 @@
--- `pair::turn` meets its contract: the midpoint is an end and nothing moves, or hues are placed there, or none are. Assumes nothing.
+-- `Climb::turn` meets its contract: the midpoint is an end and nothing moves, or hues are placed there, or none are. Assumes nothing.
 use Rattle.halving.proofs.Meeting.{no_nan}
 use Rattle.pair.proofs.Climbing.{mid_met, mid_fine, at_low, up, at_high, down}
-use Rattle.pair.proofs.turn.Goals as goal
+use Rattle.pair.proofs.Climb.turn.Goals as goal
 
 pub float_to_bits-mid : goal.float_to_bits-mid
 float_to_bits-mid c = rw (no_nan (mid_met c.requires c.midpoint-mid.ensures)) tt
