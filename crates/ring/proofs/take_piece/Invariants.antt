@@ -1,10 +1,6 @@
--- `ring::take_piece` is safe and ends: each turn takes some of the bytes that are left. Assumes nothing.
-use Prim.Native.Nat.{◌-◌, ◌≤◌}
-use lib.ListN.{length}
+-- `ring::take_piece` ends: each turn takes some of the bytes that are left. Assumes nothing.
+use Rattle.std.proofs.Common.{length}
 use Rattle.ring.proofs.take_piece.Given as goal
 
-abbrev pub invariant-loop-more : goal.invariant-loop-more
-invariant-loop-more g l = l.at ≤ length l.piece
-
-abbrev pub decreases-loop-more : goal.decreases-loop-more
-decreases-loop-more g l = length l.piece - l.at
+abbrev pub decreases-loop-rest : goal.decreases-loop-rest
+decreases-loop-rest g l = length l.rest
