@@ -4,7 +4,7 @@
 
 ghost use Rattle.std.specs.Prelude.{◌≡◌, cond, ◌<◌};
 ghost use Rattle.limits.specs.Answers.{value};
-ghost use Rattle.limits.specs.Refusals.{check_said};
+ghost use Rattle.limits.specs.Refusals.{said};
 ghost use Rattle.pair_rules.specs.Rows.{lesser, largest};
 ghost use Rattle.search_rules.specs.Job.{qualifies};
 ghost use Rattle.ceiling_rules.specs.Ceiling.{at_most, raised, ceiling_of, outlook_checked, outlook_says, ceiling_said, outlook_said};
@@ -12,24 +12,24 @@ ghost use Rattle.ceiling.specs.Inner.{Row, Rows, Tops, Passed};
 
 pub use ceiling_rules::Outlook;
 use gamut::Gamut;
-use limits::{Checked, Refusal};
+use limits::Refusal;
 use search_rules::{Job, Settings};
 
 // The first refusal of a call, of 15, 6 and 7 over the whole table.
 #[tactic(auto, unfolding(ceiling_rules::specs::Ceiling::outlook_checked))]
-fn check(job: Job, table: &[f32]) -> Checked
-    ensures { check_said result ≡ outlook_checked job table.now (value tt) }
+fn check(job: Job, table: &[f32]) -> Result<(), Refusal>
+    ensures { said result ≡ outlook_checked job table.now (value tt) }
 {
     if !search_checks::is_unbroken(job) {
-        return Checked::Wrong(Refusal::Broken);
+        return Err(Refusal::Broken);
     }
     if table.len() != job.levels * Gamut::HUES {
-        return Checked::Wrong(Refusal::TableLength);
+        return Err(Refusal::TableLength);
     }
     if !limits::takes_entries(table) {
-        return Checked::Wrong(Refusal::Entry);
+        return Err(Refusal::Entry);
     }
-    Checked::Fine
+    Ok(())
 }
 
 // The largest entry of a row. Entries that are taken are in the order of their patterns, and of whole numbers several can be compared at
@@ -108,11 +108,9 @@ fn ceiling_of(job: Job, table: &[f32]) -> Option<f32>
 pub fn look_ahead(job: Job, table: &[f32]) -> Result<Outlook, Refusal>
     ensures { outlook_said result ≡ outlook_says job table.now }
 {
-    match check(job, table) {
-        Checked::Wrong(why) => Err(why),
-        Checked::Fine => Ok(Outlook {
-            best: job.best,
-            ceiling: ceiling_of(job, table),
-        }),
-    }
+    check(job, table)?;
+    Ok(Outlook {
+        best: job.best,
+        ceiling: ceiling_of(job, table),
+    })
 }

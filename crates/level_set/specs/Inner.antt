@@ -3,9 +3,7 @@ use Rattle.std.specs.Prelude.{◌≡◌, List, ℕ, ◌*◌, ◌≤◌, ◌<◌,
 use Rattle.std.specs.Float.{nan, inf}
 use Rattle.limits.specs.Each.{Each}
 use Rattle.gamut.specs.Table.{levels_in}
-use Rattle.placement_rules.specs.Placing.{step_for}
 use Rattle.pair_rules.specs.Rows.{lesser}
-use Rattle.level_set_rules.specs.Meant.{SetTaken}
 
 -- a level of a table
 pub record LevelOf (t : List Float) (level : ℕ) : Type 0 where
@@ -32,8 +30,3 @@ Endless row = row ≡ replicate 720 (inf false)
 pub record Lowered (by row next : List Float) : Type 0 where
   pub long : length next ≡ length row
   pub at : (i : ℕ) → i < length row → get_or next i nan ≡ lesser (get_or by i nan) (get_or row i nan)
-
--- a call that is taken, with its step
-pub record Taken (k step : ℕ) (t : List Float) (levels : List ℕ) (room : ℕ) : Type 0 where
-  pub taken : SetTaken k t levels room
-  pub is_step : step ≡ step_for k

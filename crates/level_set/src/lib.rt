@@ -2,19 +2,18 @@
 // Its cases are in `level_set_cases`.
 #![tactic(auto)]
 
-ghost use Rattle.std.specs.Prelude.{◌≡◌, ℕ, length};
-ghost use Rattle.limits.specs.Answers.{value, refused, Untouched};
-ghost use Rattle.limits.specs.Refusals.{number, check_said};
+ghost use Rattle.std.specs.Prelude.{◌≡◌, length};
+ghost use Rattle.limits.specs.Answers.{value, Untouched};
+ghost use Rattle.limits.specs.Refusals.{said};
 ghost use Rattle.gamut.specs.Table.{row_at};
 ghost use Rattle.pair_rules.specs.Rows.{least_row};
 ghost use Rattle.pair_rules.specs.Pair.{entries_taken, Gives};
-ghost use Rattle.level_set_rules.specs.Set.{rows_at, set_over, indices_taken, named_checked, set_says};
-ghost use Rattle.level_set.specs.Inner.{LevelOf, Named, Long, Endless, Lowered, Taken};
+ghost use Rattle.level_set_rules.specs.Set.{rows_at, indices_taken, named_checked, set_says};
+ghost use Rattle.level_set.specs.Inner.{LevelOf, Named, Long, Endless, Lowered};
 
 use gamut::Gamut;
-use limits::{Checked, Refusal};
-pub use pair_rules::{Answer, Chosen};
-use placement_checks::Stepping;
+use limits::Refusal;
+pub use pair_rules::Chosen;
 
 // Whether each index is below n.
 fn takes_indices(levels: &[usize], n: usize) -> bool
@@ -44,25 +43,26 @@ fn takes_rows(table: &[f32], levels: &[usize]) -> bool
 }
 
 // The first refusal of a call whose hue count is taken, of 6, 8, 18, 11 and, over the rows named, 7.
-fn check(table: &[f32], levels: &[usize], room: usize) -> Checked
-    ensures { check_said result ≡ named_checked table.now levels.now room (value tt) }
+#[tactic(auto, unfolding(level_set_rules::specs::Set::named_checked, level_set_rules::specs::Set::list_taken, gamut::specs::Table::levels_in, placement_rules::specs::Placing::work_needed))]
+fn check(table: &[f32], levels: &[usize], room: usize) -> Result<(), Refusal>
+    ensures { said result ≡ named_checked table.now levels.now room (value tt) }
 {
     if !gamut::takes_table(table) {
-        return Checked::Wrong(Refusal::TableLength);
+        return Err(Refusal::TableLength);
     }
     if room < Gamut::HUES {
-        return Checked::Wrong(Refusal::WorkBuffer);
+        return Err(Refusal::WorkBuffer);
     }
-    if levels.len() < 1 || 8 < levels.len() {
-        return Checked::Wrong(Refusal::LevelList);
+    if levels.is_empty() || 8 < levels.len() {
+        return Err(Refusal::LevelList);
     }
     if !takes_indices(levels, table.len() / Gamut::HUES) {
-        return Checked::Wrong(Refusal::LevelIndex);
+        return Err(Refusal::LevelIndex);
     }
     if !takes_rows(table, levels) {
-        return Checked::Wrong(Refusal::Entry);
+        return Err(Refusal::Entry);
     }
-    Checked::Fine
+    Ok(())
 }
 
 // Lowers each number of a row to the entry of another where that is less.
@@ -86,51 +86,24 @@ fn lower_all(table: &[f32], levels: &[usize], row: &mut [f32])
     }
 }
 
-// The best over levels that are taken.
-fn best(table: &[f32], levels: &[usize], k: usize, step: usize, work: &mut [u16]) -> Chosen
-    requires { Taken k step table.now levels.now (length work.old) }
-    ensures { Gives 720 k result (value (set_over k (least_row (rows_at table.now levels.now)))) }
-{
-    let mut row = [f32::from_bits(0x7f80_0000); 720];
-    lower_all(table, levels, &mut row);
-    let most = pair::largest(&row);
-    if 0.0 < most {
-        return pair::best_for_row(&row, k, step, 0.0, work);
-    }
-    Chosen {
-        answer: Answer::Nothing,
-        hues: [0u16; 16],
-        tightest: 0,
-    }
-}
-
-// A refusal.
-fn refuse(why: Refusal) -> Chosen
-    ensures { (k : ℕ) → Gives 720 k result (refused (number why)) }
-{
-    Chosen {
-        answer: Answer::Refused(why),
-        hues: [0u16; 16],
-        tightest: 0,
-    }
-}
-
 // The best chroma at which k hues, at least the step for k apart all round, have an entry of at least it at each level named, to within
 // 2^-15, by 30 halvings from 0; nothing where no hue has a value above 0. With the hues comes their smallest gap round the circle. Indices may repeat. The work buffer's content is left free where
 // the call is accepted, and does not matter.
-pub fn best_for_level_set(table: &[f32], levels: &[usize], k: usize, work: &mut [u16]) -> Chosen
+pub fn best_for_level_set(
+    table: &[f32],
+    levels: &[usize],
+    k: usize,
+    work: &mut [u16],
+) -> Result<Option<Chosen>, Refusal>
     ensures gives { Gives 720 k result (set_says k table.now levels.now (length work.old)) }
     ensures untouched { Untouched (set_says k table.now levels.now (length work.old)) work.old work.new }
 {
-    let stepping = placement_checks::step_for(k);
-    match stepping {
-        Stepping::Refused(why) => refuse(why),
-        Stepping::Is(step) => {
-            let checked = check(table, levels, work.len());
-            match checked {
-                Checked::Wrong(why) => refuse(why),
-                Checked::Fine => best(table, levels, k, step, work),
-            }
-        }
+    let step = placement_checks::step_for(k)?;
+    check(table, levels, work.len())?;
+    let mut row = [f32::INFINITY; 720];
+    lower_all(table, levels, &mut row);
+    if 0.0 < pair::largest(&row) {
+        return pair::best_for_row(&row, k, step, 0.0, work);
     }
+    Ok(None)
 }

@@ -4,34 +4,29 @@
 
 ghost use Rattle.std.specs.Prelude.{◌≡◌, [], ◌∷◌, replicate};
 ghost use Rattle.limits.specs.Answers.{value};
-ghost use Rattle.limits.specs.Refusals.{check_said};
+ghost use Rattle.limits.specs.Refusals.{said};
 ghost use Rattle.gamut.specs.Table.{row_at};
 ghost use Rattle.pair_rules.specs.Rows.{lesser, value_at};
 ghost use Rattle.orientation_rules.specs.Orientation.{replaces, over_partners, best_fixed, orientation_checked, orientation_says, Gives};
 ghost use Rattle.orientation.specs.Inner.{best_of, There, Paired, Taken, Lit, Passed, Handed};
 
 use gamut::Gamut;
-use limits::{Checked, Refusal};
+use limits::Refusal;
 pub use orientation_rules::Oriented;
 
 // The first refusal of a call, of 2, 6, 7 over the whole table and 12.
 #[tactic(auto, unfolding(orientation_rules::specs::Orientation::orientation_checked))]
-fn check(gap: f32, table: &[f32], hue: usize) -> Checked
-    ensures { check_said result ≡ orientation_checked gap table.now hue (value tt) }
+fn check(gap: f32, table: &[f32], hue: usize) -> Result<(), Refusal>
+    ensures { said result ≡ orientation_checked gap table.now hue (value tt) }
 {
     if !limits::takes_gap(gap) {
-        return Checked::Wrong(Refusal::Gap);
+        return Err(Refusal::Gap);
     }
-    let checked = gamut::check_table(table);
-    match checked {
-        Checked::Wrong(why) => Checked::Wrong(why),
-        Checked::Fine => {
-            if Gamut::HUES <= hue {
-                return Checked::Wrong(Refusal::HueIndex);
-            }
-            Checked::Fine
-        }
+    gamut::check_table(table)?;
+    if Gamut::HUES <= hue {
+        return Err(Refusal::HueIndex);
     }
+    Ok(())
 }
 
 // The best so far.
@@ -164,8 +159,6 @@ fn handed(best: Option<Kept>, hue: usize) -> Option<Oriented>
 pub fn best_at_orientation(gap: f32, table: &[f32], hue: usize) -> Result<Option<Oriented>, Refusal>
     ensures { Gives result hue (orientation_says gap table.now hue) }
 {
-    match check(gap, table, hue) {
-        Checked::Wrong(why) => Err(why),
-        Checked::Fine => Ok(handed(over_dark(gap, table, hue), hue)),
-    }
+    check(gap, table, hue)?;
+    Ok(handed(over_dark(gap, table, hue), hue))
 }

@@ -1,8 +1,6 @@
 -- Document 02, Req 06: the page of a job for the service book, and what laying it out says and leaves in a lent buffer. Bytes are ASCII. Definitions only.
-use Rattle.std.specs.Prelude.{cond, Result, Ok, Err, List, [], ◌∷◌, map, ℕ, ◌+◌, ◌*◌, leb, length, take}
+use Rattle.std.specs.Prelude.{cond, List, [], ◌∷◌, map, ℕ, ◌+◌, ◌*◌, leb, length, take}
 use Rattle.limits.specs.Answers.{Said, value, refused}
-use Rattle.limits.specs.declared.Refusal.{Refusal}
-use Rattle.limits.specs.Refusals.{number}
 use Rattle.search_rules.specs.declared.Best.{Best}
 use Rattle.search_rules.specs.declared.Best.TheVariants.{None, Found}
 use Rattle.search_rules.specs.declared.Job.{Job}
@@ -77,8 +75,3 @@ page_by (refused n) j before = before
 -- the buffer after the call
 unfoldable pub page_after : Job → List ℕ → List ℕ
 page_after j before = page_by (page_says j (length before)) j before
-
--- what a result says
-abbrev pub said : {A : Type 0} → Result A Refusal → Said A
-said (Ok x) = value x
-said (Err w) = refused (number w)

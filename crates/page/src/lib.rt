@@ -3,11 +3,12 @@
 #![tactic(auto)]
 
 ghost use Rattle.std.specs.Prelude.{◌≡◌, [], ◌∷◌, ◌*◌, ◌≤◌, length, take};
+ghost use Rattle.limits.specs.Refusals.{said};
 ghost use Rattle.search_rules.specs.declared.Best.TheVariants.{Found};
 ghost use Rattle.text.specs.Put.{PutIn};
 ghost use Rattle.page.specs.Chroma.{units_of, hundredths, remainder};
 ghost use Rattle.page_lines.specs.Lines.{row, line_of, lines_of};
-ghost use Rattle.page.specs.Page.{hues_word, dark_word, light_word, chroma_word, rest_word, hue_word, none_word, hue_rows, rows_with, bytes_with, page_says, page_after, said};
+ghost use Rattle.page.specs.Page.{hues_word, dark_word, light_word, chroma_word, rest_word, hue_word, none_word, hue_rows, rows_with, bytes_with, page_says, page_after};
 ghost use Rattle.page.specs.Inner.{InRange, ChromaWithin};
 
 use limits::Refusal;

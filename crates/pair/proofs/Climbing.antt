@@ -13,7 +13,6 @@ use Rattle.limits.specs.Answers.{value, pass}
 use Rattle.limits.specs.declared.Refusal.{Refusal}
 use Rattle.limits.specs.Taken.{chroma_taken}
 use Rattle.limits.specs.Each.{F32}
-use Rattle.limits.proofs.Floats.{never}
 use Rattle.limits.proofs.Checks.{same_value, said_twice}
 use Rattle.halving.specs.Midpoint.{midpoint, halved, halve}
 use Rattle.halving.proofs.Halve.{halve_up, halve_down, stays_low, stays_high}

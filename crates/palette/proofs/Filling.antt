@@ -1,22 +1,17 @@
--- An array that is filled with what a function gives of each colour: one place on, and the part that stands for some of the colours. Assumes nothing.
+-- An array that is filled with what a function gives of each colour: the part that stands for some of the colours. Assumes nothing.
 use mathlib.Core.Path.{◌≡◌, refl, sym, ap, ◌∙◌}
 use mathlib.Core.List.{List, ◌∷◌, map}
-use Prim.Native.Nat.{ℕ, zero, suc, ◌+◌, ◌≤◌, ◌<◌}
-use native.Mathlib.Nat.{ne_of_lt}
+use Prim.Native.Nat.{ℕ, zero, suc, ◌+◌, ◌≤◌}
 use native.Mathlib.Omega.{arith}
 use lib.Ieee.{Float, nan}
-use lib.ListN.{length, get_or, set, take, drop}
-use lib.Seq.{get_or-set_same, get_or-set_other, drop-cons}
-use borrow.Author.Count.{below_more}
+use lib.ListN.{get_or, take, drop}
+use lib.Seq.{drop-cons}
 use Rattle.srgb.specs.declared.Srgb8.{Srgb8}
 use Rattle.palette.specs.Derivation.{black}
 use Rattle.metrics.specs.Metrics.{darks, lights}
-use Rattle.palette.specs.Inner.{Filled, Measured}
+use Rattle.palette.specs.Inner.{Measured}
 
 module _ (f : Srgb8 → Float) (colors : List Srgb8) (xs : List Float) where
-  pub filled_next : (i : ℕ) (v : Float) → i < length xs → Filled f i colors xs → v ≡ f (get_or colors i black) → Filled f (i + 1) colors (set xs i v)
-  filled_next i v at filled e = below_more _ i (λ (k : ℕ) (g : k < i). get_or-set_other xs i k v nan (ne_of_lt g) ∙ filled k g) (get_or-set_same xs i v nan at ∙ e)
-
   -- m numbers from a place on, where the first n places are filled
   module _ (n : ℕ) (all : Measured f n colors xs) where
     pub part_is : (m from : ℕ) → from + m ≤ n → take m (drop from xs) ≡ map f (take m (drop from colors))

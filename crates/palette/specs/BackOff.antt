@@ -1,15 +1,16 @@
 -- Document 01, "Palette": "`back_off` lowers chroma by 0.05 while it is ≥ 35; it returns the first chroma with no finding and its colours, else the last finding, or 0 if
 -- none was tried, with all colours zero." Definitions only.
-use Rattle.std.specs.Prelude.{ℕ, zero, suc, ◌^◌, Bool, true, false, List, Float, replicate}
+use Rattle.std.specs.Prelude.{ℕ, zero, suc, ◌^◌, Bool, true, false, List, Float, Result, Ok, Err, replicate}
 use Rattle.std.specs.Float.{binary32}
 use Rattle.std.specs.Float.Ieee.{to_bits, round, sub, le}
 use Rattle.limits.specs.Answers.{Said, value, refused}
 use Rattle.limits.specs.Refusals.{number}
+use Rattle.limits.specs.declared.Refusal.{Refusal}
 use Rattle.limits.specs.Taken.{f32_of}
 use Rattle.srgb.specs.declared.Srgb8.{Srgb8}
 use Rattle.palette_checks.specs.declared.Design.{Design}
-use Rattle.palette.specs.declared.BackOff as back-off
-use Rattle.palette.specs.declared.BackOff.TheVariants as back-off-of
+use Rattle.palette.specs.declared.BackOff.{BackOff}
+use Rattle.palette.specs.declared.BackOff.TheVariants.{Passed, Found, Untried}
 use Rattle.palette_checks.specs.Designs.{design_checked}
 use Rattle.palette.specs.Derivation.{black, colors_of}
 use Rattle.palette.specs.Validation.{Judgement, passed, finding, judged, finding_number}
@@ -52,13 +53,27 @@ unfoldable pub back_off_says : Design → Float → List Float → List Float �
 back_off_says d c cs ss = design_checked d c cs ss (value (end_of (judge_at d cs ss) c))
 
 -- ---- what is handed back
-abbrev pub back_off_said : back-off.BackOff → Said Ending
-back_off_said (back-off-of.Passed c) = value (passes c)
-back_off_said (back-off-of.Found f) = value (lastly (finding_number f))
-back_off_said back-off-of.Untried = value (lastly 0)
-back_off_said (back-off-of.Refused w) = refused (number w)
+-- where back-off ends
+abbrev pub ending_of : BackOff → Ending
+ending_of (Passed c colors) = passes c
+ending_of (Found f) = lastly (finding_number f)
+ending_of Untried = lastly 0
 
--- the colours beside an answer: those of the chroma that passes, else all zero
+abbrev pub back_off_said : Result BackOff Refusal → Said Ending
+back_off_said (Ok b) = value (ending_of b)
+back_off_said (Err w) = refused (number w)
+
+-- the colours it has, and all zero for those that it has not
+abbrev pub colors_in : BackOff → List Srgb8
+colors_in (Passed c colors) = colors
+colors_in (Found f) = replicate 32 black
+colors_in Untried = replicate 32 black
+
+abbrev pub colors_said : Result BackOff Refusal → List Srgb8
+colors_said (Ok b) = colors_in b
+colors_said (Err w) = replicate 32 black
+
+-- the colours that a call ends with: those of the chroma that passes, else all zero
 abbrev pub colors_after : Design → List Float → List Float → Said Ending → List Srgb8
 colors_after d cs ss (value (passes c)) = colors_of d c cs ss
 colors_after d cs ss (value (lastly n)) = replicate 32 black

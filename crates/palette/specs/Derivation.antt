@@ -1,15 +1,12 @@
 -- Document 01, "Palette": derivation. Definitions only.
 use Rattle.std.specs.Prelude.{ℕ, ◌+◌, ◌-◌, List, [], ◌∷◌, ◌++◌, Float, get_or, take, replicate}
 use Rattle.std.specs.Float.{nan}
-use Rattle.limits.specs.Answers.{Said, value, refused}
-use Rattle.limits.specs.Refusals.{number}
+use Rattle.limits.specs.Answers.{Said, value}
 use Rattle.srgb.specs.declared.Srgb8.{Srgb8}
 use Rattle.clipping.specs.Clip.{clipped_of}
 use Rattle.gamut.specs.Gamut.{level_of}
 use Rattle.palette_checks.specs.declared.Design.{Design}
 use Rattle.palette_checks.specs.Designs.{design_checked}
-use Rattle.palette.specs.declared.Derivation.{Derivation}
-use Rattle.palette.specs.declared.Derivation.TheVariants.{Derived, Refused}
 
 -- ---- colours
 abbrev pub black : Srgb8
@@ -32,14 +29,3 @@ colors_of d c cs ss =
 
 unfoldable pub derivation_says : Design → Float → List Float → List Float → Said (List Srgb8)
 derivation_says d c cs ss = design_checked d c cs ss (value (colors_of d c cs ss))
-
--- ---- what is handed back
--- an answer, with the colours that stand beside it
-abbrev pub derivation_said : Derivation → List Srgb8 → Said (List Srgb8)
-derivation_said Derived colors = value colors
-derivation_said (Refused w) colors = refused (number w)
-
--- all zero where it is refused
-abbrev pub colors_beside : Said (List Srgb8) → List Srgb8
-colors_beside (value colors) = colors
-colors_beside (refused n) = replicate 32 black

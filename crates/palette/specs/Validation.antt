@@ -1,18 +1,16 @@
 -- Document 01, "Palette": the findings, and validation as a call. Definitions only.
-use Rattle.std.specs.Prelude.{ℕ, ◌+◌, Bool, ◌&&◌, cond, List, [], ◌∷◌, leb, eqb, Float}
+use Rattle.std.specs.Prelude.{ℕ, ◌+◌, Bool, ◌&&◌, cond, List, [], ◌∷◌, leb, eqb, Float, Option, None, Some, Result, Ok, Err}
 use Rattle.std.specs.Float.{binary32}
 use Rattle.std.specs.Float.Ieee.{div, lt}
 use Rattle.limits.specs.Answers.{Said, value, refused}
 use Rattle.limits.specs.Refusals.{number}
+use Rattle.limits.specs.declared.Refusal.{Refusal}
 use Rattle.limits.specs.Taken.{f32_of, hue_count_taken, directions_taken}
 use Rattle.srgb.specs.declared.Srgb8.{Srgb8}
 use Rattle.metrics.specs.declared.Metrics.{Metrics}
 use Rattle.palette.specs.declared.Finding.{Finding}
 use Rattle.palette.specs.declared.Finding.TheVariants.{Gap, Spread, Separation, Chroma}
-use Rattle.palette.specs.declared.Verdict as verdict
-use Rattle.palette.specs.declared.Verdict.TheVariants as verdict-of
-use Rattle.palette.specs.declared.Validation as validation
-use Rattle.palette.specs.declared.Validation.TheVariants as validation-of
+use Rattle.palette.specs.declared.Validation.{Validation}
 use Rattle.metrics.specs.Metrics.{metrics_of}
 
 -- ---- findings
@@ -64,10 +62,11 @@ finding_number Spread = 2
 finding_number Separation = 3
 finding_number Chroma = 4
 
-abbrev pub verdict_said : verdict.Verdict → Judgement
-verdict_said verdict-of.Passed = passed
-verdict_said (verdict-of.Found f) = finding (finding_number f)
+-- the first finding, or none
+abbrev pub verdict_said : Option Finding → Judgement
+verdict_said None = passed
+verdict_said (Some f) = finding (finding_number f)
 
-abbrev pub validation_said : validation.Validation → Said Judged
-validation_said (validation-of.Measured m v) = value (record { metrics = m; judgement = verdict_said v })
-validation_said (validation-of.Refused w) = refused (number w)
+abbrev pub validation_said : Result Validation Refusal → Said Judged
+validation_said (Ok v) = value (record { metrics = v.metrics; judgement = verdict_said v.finding })
+validation_said (Err w) = refused (number w)

@@ -48,47 +48,6 @@ fn placed(n: usize, k: usize, hues: [u16; 16]) -> Placement
     }
 }
 
-// The ring's first allowed index, 65535 if there is none: document 01 names this mark.
-fn first_allowed(m: &[f32], c: f32) -> u16
-    requires { length m.now ≤ 720 }
-    ensures { result ≡ first_allowed m.now c }
-{
-    for (i, x) in m.iter().enumerate() {
-        if c <= *x {
-            return i as u16;
-        }
-    }
-    65535
-}
-
-// Fills the table of earliest allowed indices, one lap from its top. After the last allowed index comes the first, one length on.
-fn fill(m: &[f32], c: f32, first: u16, work: &mut [u16])
-    requires { FillAsked m.now c first work.old }
-    ensures { Filled m.now c 0 work.new }
-{
-    let n = m.len();
-    let mut seen = n as u16 + first;
-    for i in (0..n).rev() {
-        if c <= m[i] {
-            seen = i as u16;
-        }
-        work[i] = seen;
-    }
-}
-
-// The earliest allowed index from an index of the first or the second lap on, by the table.
-fn ahead(m: &[f32], c: f32, next: &[u16], from: usize) -> usize
-    requires { (length m.now ≤ 720) × (Filled m.now c 0 next.now × (from < length m.now + length m.now)) }
-    ensures { result ≡ earliest (allowed_at m.now c) (length m.now) from }
-{
-    let n = m.len();
-    if from < n {
-        next[from] as usize
-    } else {
-        n + next[from - n] as usize
-    }
-}
-
 // An index of the second lap brought down to the first.
 fn reduce(j: usize, n: usize) -> u16
     requires { (j < n + n) × (n ≤ 720) }
@@ -97,70 +56,117 @@ fn reduce(j: usize, n: usize) -> u16
     if j < n { j as u16 } else { (j - n) as u16 }
 }
 
-// k indices from a start, each the earliest allowed at least `step` further on, by the table of earliest allowed indices.
-fn place_from(
-    m: &[f32],
+// A placement that is asked for, with arguments that are taken.
+#[derive(Clone, Copy)]
+struct Ring<'a> {
+    // the entries all round, and the chroma that those of hues must reach
+    m: &'a [f32],
     c: f32,
-    next: &[u16],
+    // how many hues, and how far apart
     k: usize,
     step: usize,
-    start: usize,
-) -> Option<Placement>
-    requires { Asked m.now k step × (Filled m.now c 0 next.now × (start < length m.now)) }
-    ensures { Hands (length m.now) k result (placed_from m.now c k step start) }
-{
-    if !(c <= m[start]) {
-        return None;
-    }
-    let n = m.len();
-    let stop = start + n;
-    let mut hues = [0u16; 16];
-    hues[0] = start as u16;
-    let mut cur = start;
-    for at in 1..k {
-        let from = cur + step;
-        if stop <= from {
-            return None;
-        }
-        let j = ahead(m, c, next, from);
-        if stop <= j {
-            return None;
-        }
-        hues[at] = reduce(j, n);
-        cur = j;
-    }
-    if stop - cur < step {
-        return None;
-    }
-    Some(placed(n, k, hues))
+    ghost asked: { Asked m.now k step },
 }
 
-// The first start that succeeds. A start from which k - 1 steps would reach past the ring's end is not tried.
-fn first_start(m: &[f32], c: f32, next: &[u16], k: usize, step: usize) -> Option<Placement>
-    requires { Asked m.now k step × Filled m.now c 0 next.now }
-    ensures { Hands (length m.now) k result (placed_on m.now c k step) }
-{
-    let reach = (k - 1) * step;
-    for s in 0..m.len().saturating_sub(reach) {
-        let found = place_from(m, c, next, k, step, s);
-        if found.is_some() {
-            return found;
+impl Ring<'_> {
+    // The first allowed index, 65535 if there is none: document 01 names this mark.
+    fn first_allowed(&self) -> u16
+        ensures { result ≡ first_allowed self.now.m.now self.now.c }
+    {
+        for (i, x) in self.m.iter().enumerate() {
+            if self.c <= *x {
+                return i as u16;
+            }
+        }
+        65535
+    }
+
+    // Fills the table of earliest allowed indices, one lap from its top. After the last allowed index comes the first, one length on.
+    fn fill(&self, first: u16, work: &mut [u16])
+        requires { FillAsked self.now.m.now self.now.c first work.old }
+        ensures { Filled self.now.m.now self.now.c 0 work.new }
+    {
+        let n = self.m.len();
+        let mut seen = n as u16 + first;
+        for i in (0..n).rev() {
+            if self.c <= self.m[i] {
+                seen = i as u16;
+            }
+            work[i] = seen;
         }
     }
-    None
-}
 
-// The placement on a ring whose arguments are taken.
-fn place(m: &[f32], c: f32, k: usize, step: usize, work: &mut [u16]) -> Option<Placement>
-    requires { Asked m.now k step × (length m.now ≤ length work.old) }
-    ensures { Hands (length m.now) k result (placed_on m.now c k step) }
-{
-    let first = first_allowed(m, c);
-    if first == 65535 {
-        return None;
+    // The earliest allowed index from an index of the first or the second lap on, by the table.
+    fn ahead(&self, next: &[u16], from: usize) -> usize
+        requires { Filled self.now.m.now self.now.c 0 next.now × (from < length self.now.m.now + length self.now.m.now) }
+        ensures { result ≡ earliest (allowed_at self.now.m.now self.now.c) (length self.now.m.now) from }
+    {
+        let n = self.m.len();
+        if from < n {
+            next[from] as usize
+        } else {
+            n + next[from - n] as usize
+        }
     }
-    fill(m, c, first, work);
-    first_start(m, c, work, k, step)
+
+    // k indices from a start, each the earliest allowed at least `step` further on, by the table of earliest allowed indices.
+    fn place_from(&self, next: &[u16], start: usize) -> Option<Placement>
+        requires { Filled self.now.m.now self.now.c 0 next.now × (start < length self.now.m.now) }
+        ensures { Hands (length self.now.m.now) self.now.k result (placed_from self.now.m.now self.now.c self.now.k self.now.step start) }
+    {
+        if !(self.c <= self.m[start]) {
+            return None;
+        }
+        let n = self.m.len();
+        let stop = start + n;
+        let mut hues = [0u16; 16];
+        hues[0] = start as u16;
+        let mut cur = start;
+        for at in 1..self.k {
+            let from = cur + self.step;
+            if stop <= from {
+                return None;
+            }
+            let j = self.ahead(next, from);
+            if stop <= j {
+                return None;
+            }
+            hues[at] = reduce(j, n);
+            cur = j;
+        }
+        if stop - cur < self.step {
+            return None;
+        }
+        Some(placed(n, self.k, hues))
+    }
+
+    // The first start that succeeds. A start from which k - 1 steps would reach past the ring's end is not tried.
+    fn first_start(&self, next: &[u16]) -> Option<Placement>
+        requires { Filled self.now.m.now self.now.c 0 next.now }
+        ensures { Hands (length self.now.m.now) self.now.k result (placed_on self.now.m.now self.now.c self.now.k self.now.step) }
+    {
+        let reach = (self.k - 1) * self.step;
+        for s in 0..self.m.len().saturating_sub(reach) {
+            let found = self.place_from(next, s);
+            if found.is_some() {
+                return found;
+            }
+        }
+        None
+    }
+
+    // The placement, in a work buffer with room for the table.
+    fn place(&self, work: &mut [u16]) -> Option<Placement>
+        requires { length self.now.m.now ≤ length work.old }
+        ensures { Hands (length self.now.m.now) self.now.k result (placed_on self.now.m.now self.now.c self.now.k self.now.step) }
+    {
+        let first = self.first_allowed();
+        if first == 65535 {
+            return None;
+        }
+        self.fill(first, work);
+        self.first_start(work)
+    }
 }
 
 // k hues at least `step` apart all round a ring, each with an entry of at least c: the first placement, with its smallest gap
@@ -176,5 +182,6 @@ pub fn feasible(
     ensures untouched { Untouched (placement_says k step c m.now (length work.old)) work.old work.new }
 {
     placement_checks::check(m, c, k, step, work.len())?;
-    Ok(place(m, c, k, step, work))
+    let ring = Ring { m, c, k, step };
+    Ok(ring.place(work))
 }

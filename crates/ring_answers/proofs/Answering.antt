@@ -5,10 +5,12 @@ use Prim.Native.Nat.{ℕ}
 use lib.Ieee.{Float}
 use native.Mathlib.Omega.{arith}
 use lib.ListN.{length, take}
-use Rattle.std.specs.Prelude.{Some, None}
+use Rattle.std.specs.Prelude.{Option, Some, None, Result, Err}
+use Rattle.limits.specs.declared.Refusal.{Refusal}
+use Rattle.limits.specs.declared.Refusal.TheVariants.{Line}
 use Rattle.limits.specs.Answers.{Said, refused}
 use Rattle.placement_rules.specs.Ring.{Places}
-use Rattle.placement_rules.specs.Placing.{placement_says, answers}
+use Rattle.placement_rules.specs.Placing.{placement_says, placement_said}
 use Rattle.text.specs.Put.{PutIn, Laid}
 use Rattle.text.proofs.Put.{puts_over}
 use Rattle.ring_reading.specs.Fields.{line_of}
@@ -27,19 +29,19 @@ in_room k step c row space e s = s ∙ ap (placement_says k step c row) e
 
 module _ (line : List ℕ) where
   -- a malformed line
-  pub says_malformed : {p : Placement} → LineRead (line_of line) None → answers p.answer p.hues ≡ refused 17 → Says line (record { k = 0; placement = p })
+  pub says_malformed : LineRead (line_of line) None → Says line (record { k = 0; found = Err Line })
   unfolding line_says
-  says_malformed read s = let l = read.asking in record { count = rw (← l); said = rw (← l) s }
+  says_malformed read = let l = read.asking in record { count = rw (← l); said = rw (← l) }
 
   -- any other
-  pub says_asked : {p : Placement} (a : Asked) → LineRead (line_of line) (Some a) → answers p.answer p.hues ≡ placement_says a.k a.step a.c (take a.length a.row) room
-      → Says line (record { k = a.k; placement = p })
+  pub says_asked : {found : Result (Option Placement) Refusal} (a : Asked) → LineRead (line_of line) (Some a) → placement_said found ≡ placement_says a.k a.step a.c (take a.length a.row) room
+      → Says line (record { k = a.k; found = found })
   unfolding line_says
   says_asked a read s = let l = read.asking in record { count = rw (← l); said = rw (← l) s }
 
 -- the answer to a line is what is said to it, and a text of 64 bytes has room for it
 pub answer_said : {line before after : List ℕ} {w : ℕ} {r : Saying} → Says line r → length before ≡ 64
-    → PutIn before 0 (answer_bytes r.k (answers r.placement.answer r.placement.hues)) after w → Laid before (answer_of line) after w
+    → PutIn before 0 (answer_bytes r.k (placement_said r.found)) after w → Laid before (answer_of line) after w
 unfolding answer_of
 answer_said {line} s n p =
     let few = answer_few line in

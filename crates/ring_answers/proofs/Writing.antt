@@ -16,7 +16,7 @@ use Rattle.text.specs.Decimal.{decimal}
 use Rattle.text.proofs.Put.{puts_both}
 use Rattle.text.proofs.Decimal.{decimal_long}
 use Rattle.ring_reading.specs.Fields.{Line, malformed, asks, line_of}
-use Rattle.ring_answers.specs.Answers.{room, said_to, line_says, count_of, answer_text, answer_bytes, answer_of, parted}
+use Rattle.ring_answers.specs.Answers.{room, said_to, line_says, count_of, answer_text, answer_bytes, answer_of}
 use Rattle.ring_answers.proofs.Parted.{parted_long}
 
 -- `refused,` and a number
@@ -24,21 +24,6 @@ pub puts_refused : {a b c : List ℕ} {m r : ℕ} (n x : ℕ) → x ≡ n → Pu
     → PutIn a 0 (answer_text 0 (refused n)) c r
 unfolding answer_text
 puts_refused n x e p q = rw (← e) (puts_both p q)
-
--- `none`
-pub puts_nowhere : {a b : List ℕ} {r : ℕ} (k : ℕ) → PutIn a 0 (110 ∷ 111 ∷ 110 ∷ 101 ∷ []) b r → PutIn a 0 (answer_text k (value nowhere)) b r
-unfolding answer_text
-puts_nowhere k p = p
-
--- the k indices
-pub puts_indices : {a b : List ℕ} {r : ℕ} (k : ℕ) (hues : List ℕ) → PutIn a 0 (parted (take k hues)) b r → PutIn a 0 (answer_text k (value (placed hues))) b r
-unfolding answer_text
-puts_indices k hues p = p
-
--- a refusal's text is the same for every k
-pub refused_any : (k n : ℕ) → answer_text 0 (refused n) ≡ answer_text k (refused n)
-unfolding answer_text
-refused_any k n = refl
 
 -- ---- how long it gets: what is placed is sixteen indices
 abbrev pub Sixteen : Said Places → Type 0

@@ -5,20 +5,20 @@
 ghost use Rattle.std.specs.Prelude.{◌≡◌, ◌≤◌, length, take};
 ghost use Rattle.limits.specs.Answers.{refused};
 ghost use Rattle.limits.specs.Refusals.{number};
-ghost use Rattle.placement_rules.specs.Placing.{placement_says, answers};
+ghost use Rattle.placement_rules.specs.Placing.{placement_says, placement_said};
 ghost use Rattle.text.specs.Put.{PutIn, Laid};
 ghost use Rattle.ring_answers.specs.Answers.{room, parted, answer_text, answer_bytes, answer_of};
 ghost use Rattle.ring_answers.specs.Inner.{index_at, Says};
 
 use limits::Refusal;
-use placement::{Answer, Placement};
+use placement::Placement;
 use ring_reading::Asked;
 
 // What is said to a line: a placement of k hues, none, or a refusal.
 #[derive(Clone, Copy)]
 struct Saying {
     k: usize,
-    placement: Placement,
+    found: Result<Option<Placement>, Refusal>,
 }
 
 // Puts the i-th index of an answer, with a comma before each but the first.
@@ -48,43 +48,33 @@ fn put_refused(text: &mut [u8], why: Refusal) -> usize
     ensures { PutIn text.old 0 (answer_text 0 (refused (number why))) text.new result }
 {
     let at = text::put_bytes(text, 0, b"refused,");
-    text::put_number(text, at, why.number() as u16)
+    text::put_number(text, at, u16::from(why.number()))
 }
 
 // Puts an answer, with no newline, at the start of a text, and gives the next place.
-fn put_text(text: &mut [u8], k: usize, placement: Placement) -> usize
-    ensures { PutIn text.old 0 (answer_text k (answers placement.answer placement.hues)) text.new result }
+#[tactic(auto, unfolding(crate::specs::Answers::answer_text))]
+fn put_text(text: &mut [u8], k: usize, found: Result<Option<Placement>, Refusal>) -> usize
+    ensures { PutIn text.old 0 (answer_text k (placement_said found)) text.new result }
 {
-    match placement.answer {
-        Answer::Placed => put_indices(text, placement.hues, k),
-        Answer::Nowhere => text::put_bytes(text, 0, b"none"),
-        Answer::Refused(why) => put_refused(text, why),
+    match found {
+        Ok(Some(placement)) => put_indices(text, placement.hues, k),
+        Ok(None) => text::put_bytes(text, 0, b"none"),
+        Err(why) => put_refused(text, why),
     }
 }
 
 // Puts an answer, with its newline, at the start of a text, and gives the next place.
-fn put_answer(text: &mut [u8], k: usize, placement: Placement) -> usize
-    ensures { PutIn text.old 0 (answer_bytes k (answers placement.answer placement.hues)) text.new result }
+fn put_answer(text: &mut [u8], k: usize, found: Result<Option<Placement>, Refusal>) -> usize
+    ensures { PutIn text.old 0 (answer_bytes k (placement_said found)) text.new result }
 {
-    let end = put_text(text, k, placement);
+    let end = put_text(text, k, found);
     text::put_byte(text, end, b'\n')
 }
 
-// What is said to a line that is malformed.
-fn malformed() -> Placement
-    ensures { answers result.answer result.hues ≡ refused 17 }
-{
-    Placement {
-        answer: Answer::Refused(Refusal::Line),
-        hues: [0u16; 16],
-        tightest: 0,
-    }
-}
-
 // What is placed on the ring that a line asks about.
-fn place(asked: &Asked) -> Placement
+fn place(asked: &Asked) -> Result<Option<Placement>, Refusal>
     requires { asked.now.length ≤ 999 }
-    ensures { answers result.answer result.hues ≡ placement_says asked.now.k asked.now.step asked.now.c (take asked.now.length asked.now.row) room }
+    ensures { placement_said result ≡ placement_says asked.now.k asked.now.step asked.now.c (take asked.now.length asked.now.row) room }
 {
     let mut work = [0; 720];
     placement::feasible(
@@ -103,11 +93,11 @@ fn said_to(line: &[u8]) -> Saying
     match ring_reading::read_line(line) {
         Some(asked) => Saying {
             k: asked.k,
-            placement: place(&asked),
+            found: place(&asked),
         },
         None => Saying {
             k: 0,
-            placement: malformed(),
+            found: Err(Refusal::Line),
         },
     }
 }
@@ -116,13 +106,13 @@ fn said_to(line: &[u8]) -> Saying
 pub fn answer_line(line: &[u8], text: &mut [u8; 64]) -> usize
     ensures { Laid text.old (answer_of line.now) text.new result }
 {
-    let Saying { k, placement } = said_to(line);
-    put_answer(text, k, placement)
+    let Saying { k, found } = said_to(line);
+    put_answer(text, k, found)
 }
 
 // Writes the answer to a line of more than 4,096 bytes, which is malformed.
 pub fn answer_longer(text: &mut [u8; 64]) -> usize
     ensures { Laid text.old (answer_bytes 0 (refused 17)) text.new result }
 {
-    put_answer(text, 0, malformed())
+    put_answer(text, 0, Err(Refusal::Line))
 }

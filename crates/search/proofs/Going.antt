@@ -9,23 +9,27 @@ use Rattle.limits.specs.Answers.{Said, value, refused}
 use Rattle.limits.specs.Refusals.{number}
 use Rattle.limits.specs.Taken.{entry_taken, every}
 use Rattle.limits.specs.declared.Refusal.{Refusal}
+use Rattle.std.specs.Prelude.{Option, Some, None, Result, Ok, Err}
 use Rattle.gamut.specs.Table.{row_at}
 use Rattle.gamut.proofs.Table.{row_long, part, part_row}
-use Rattle.placement_rules.specs.Placing.{step_for}
+use Rattle.placement_rules.specs.Placing.{step_for, step_says}
 use Rattle.placement_rules.specs.Gaps.{tightest}
 use Rattle.placement_rules.proofs.Step.{step_taken}
 use Rattle.pair_rules.specs.declared.Chosen.{Chosen}
-use Rattle.pair_rules.specs.declared.Answer.{Answer}
-use Rattle.pair_rules.specs.declared.Answer.TheVariants.{Found, Nothing, Refused}
 use Rattle.pair_rules.specs.Rows.{least_row}
-use Rattle.pair_rules.specs.Pair.{Best, best_over, rows_say, pair_says, tightest_beside, answers, Gives}
+use Rattle.pair_rules.specs.Pair.{Best, best_over, rows_say, pair_says, tightest_beside, chosen_said, tightest_of, Gives}
 use Rattle.pair_rules.proofs.Gaps.{gives_same}
 use Rattle.search_rules.specs.declared.Job.{Job}
-use Rattle.search_rules.specs.Job.{floor_of, qualifies, beats, moved_on, replaced, after_pair, pair_best, searched}
+use Rattle.search_rules.specs.Job.{unbroken, floor_of, qualifies, beats, moved_on, replaced, after_pair, pair_best, searched}
 use Rattle.search.specs.Inner.{pair_given, Stepped}
 use Rattle.search_rules.proofs.Unbroken.{sound}
 use Rattle.search_rules.proofs.Floor.{floor_taken}
 use Rattle.search_rules.proofs.Rows.{rows_left}
+
+-- its hue count has a step
+pub own_step : (j : Job) → unbroken j ≡ true → step_says j.settings.k ≡ value (step_for j.settings.k)
+unfolding step_says
+own_step j h = rw (sound j h).hue_count_taken_lem
 
 -- ---- what `pair` says of the two rows
 pub pair_says_lem :
@@ -43,7 +47,7 @@ pair_says_lem j table room d l step floor s e f =
     (row_long table j.levels d s.long s.dark_in) (row_long table j.levels l s.long s.light_in) s.room_enough)
 
 -- and hands back over the circle
-pub given_round : (j : Job) (table : List Float) (room d l : ℕ) {r : Chosen} {x y : Said Best} → Stepped j table room d l → x ≡ y → Gives (length (part table d)) j.settings.k r x → Gives 720 j.settings.k r y
+pub given_round : (j : Job) (table : List Float) (room d l : ℕ) {r : Result (Option Chosen) Refusal} {x y : Said Best} → Stepped j table room d l → x ≡ y → Gives (length (part table d)) j.settings.k r x → Gives 720 j.settings.k r y
 given_round j table room d l s e g = gives_same (ap length (part_row table d) ∙ row_long table j.levels d s.long s.dark_in) e g
 
 -- ---- the job after it
@@ -61,31 +65,34 @@ module _ (j : Job) (table : List Float) (d l : ℕ) where
   unfolding searched
   passed_over f = rw f
 
-  module _ (far : qualifies j.settings d l ≡ true) (answer : Answer) (hues : List ℕ) (says : answers answer hues ≡ pair_given j table d l) where
-    went : searched j table d l ≡ after j d l (answers answer hues)
+  module _ (far : qualifies j.settings d l ≡ true) where
+    went : (r : Result (Option Chosen) Refusal) → chosen_said r ≡ pair_given j table d l → searched j table d l ≡ after j d l (chosen_said r)
     unfolding searched
-    went = rw far (after_rows j d l (every entry_taken (row_at table d) && every entry_taken (row_at table l)) (pair_best j table d l)) ∙ ap (after j d l) (sym says)
+    went r says = rw far (after_rows j d l (every entry_taken (row_at table d) && every entry_taken (row_at table l)) (pair_best j table d l)) ∙ ap (after j d l) (sym says)
 
-    pub went_refused : (w : Refusal) → answer ≡ Refused w → searched j table d l ≡ refused (number w)
-    went_refused w e = went ∙ ap (λ (a : Answer). after j d l (answers a hues)) e
+    pub went_refused : (w : Refusal) → Gives 720 j.settings.k (Err w) (pair_given j table d l) → searched j table d l ≡ refused (number w)
+    went_refused w g = went (Err w) g.says
 
-    pub given_refused : (w : Refusal) → answer ≡ Refused w → pair_given j table d l ≡ refused (number w)
-    given_refused w e = sym says ∙ ap (λ (a : Answer). answers a hues) e
+    module _ (best : Option Chosen) (g : Gives 720 j.settings.k (Ok best) (pair_given j table d l)) where
+      pub went_nowhere : best ≡ None → searched j table d l ≡ value (moved_on j)
+      went_nowhere e = went (Ok best) g.says ∙ ap (λ (b : Option Chosen). after j d l (chosen_said (Ok b))) e
 
-    pub went_nowhere : answer ≡ Nothing → searched j table d l ≡ value (moved_on j)
-    went_nowhere e = went ∙ ap (λ (a : Answer). after j d l (answers a hues)) e
+      module _ (c : Chosen) (e : best ≡ Some c) where
+        abbrev better : ℕ → Job
+        better t = replaced j c.chroma d l c.hues t
 
-    abbrev better : Float → Job
-    better c = replaced j c d l hues (tightest 720 (take j.settings.k hues))
+        -- with the smallest gap that stands beside the pair's hues
+        beside : c.tightest ≡ tightest 720 (take j.settings.k c.hues)
+        beside = ap (λ (b : Option Chosen). tightest_of (Ok b)) (sym e) ∙ g.tightest_is ∙ ap (tightest_beside 720 j.settings.k) (sym g.says ∙ ap (λ (b : Option Chosen). chosen_said (Ok b)) e)
 
-    went_found : (c : Float) → answer ≡ Found c → searched j table d l ≡ value (cond (beats c j.best) (better c) (moved_on j))
-    went_found c e = went ∙ ap (λ (a : Answer). after j d l (answers a hues)) e
+        went_found : searched j table d l ≡ value (cond (beats c.chroma j.best) (better c.tightest) (moved_on j))
+        went_found =
+            went (Ok best) g.says
+            ∙ ap (λ (b : Option Chosen). after j d l (chosen_said (Ok b))) e
+            ∙ ap (λ (t : ℕ). value (cond (beats c.chroma j.best) (better t) (moved_on j))) (sym beside)
 
-    -- with the smallest gap that stands beside the pair's answer
-    pub went_better : (c : Float) → answer ≡ Found c → (t : ℕ) → t ≡ tightest_beside 720 j.settings.k (pair_given j table d l) → beats c j.best ≡ true → searched j table d l ≡ value (replaced j c d l hues t)
-    went_better c e t f b =
-        let beside : t ≡ tightest 720 (take j.settings.k hues) = f ∙ ap (tightest_beside 720 j.settings.k) (sym says ∙ ap (λ (a : Answer). answers a hues) e) in
-        went_found c e ∙ ap (λ (b : Bool). value (cond b (better c) (moved_on j))) b ∙ ap (λ (x : ℕ). value (replaced j c d l hues x)) (sym beside)
+        pub went_better : beats c.chroma j.best ≡ true → searched j table d l ≡ value (better c.tightest)
+        went_better b = went_found ∙ ap (λ (t : Bool). value (cond t (better c.tightest) (moved_on j))) b
 
-    pub went_worse : (c : Float) → answer ≡ Found c → beats c j.best ≡ false → searched j table d l ≡ value (moved_on j)
-    went_worse c e b = went_found c e ∙ ap (λ (t : Bool). value (cond t (better c) (moved_on j))) b
+        pub went_worse : beats c.chroma j.best ≡ false → searched j table d l ≡ value (moved_on j)
+        went_worse b = went_found ∙ ap (λ (t : Bool). value (cond t (better c.tightest) (moved_on j))) b

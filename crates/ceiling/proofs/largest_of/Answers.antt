@@ -1,12 +1,12 @@
 -- `ceiling::largest_of` meets its contract. The invariant: the largest of the values that are left and of the number whose pattern is held is the largest of all. Assumes nothing.
-use mathlib.Core.Path.{◌≡◌, refl, ap, ◌∙◌}
+use mathlib.Core.Path.{refl, ap, ◌∙◌}
 use mathlib.Core.List.{List}
 use Prim.Native.Nat.{ℕ, ◌+◌, ◌<◌}
 use native.Mathlib.Omega.{arith}
 use lib.Ieee.{Float, binary32, nan, of_bits, to_bits, of_int}
 use lib.ListN.{length, get_or, drop}
 use Rattle.halving.proofs.Plain.{Plain}
-use Rattle.pair_rules.specs.Rows.{greater, largest_from, largest}
+use Rattle.pair_rules.specs.Rows.{largest_from, largest}
 use Rattle.pair_rules.proofs.Rows.{largest_next, largest_done}
 use Rattle.ceiling_rules.proofs.Tops.{entry_plain}
 use Rattle.ceiling.specs.Inner.{Row}

@@ -3,6 +3,7 @@ use mathlib.Core.Path.{◌≡◌, sym, ap, ◌∙◌}
 use mathlib.Core.List.{List}
 use Prim.Native.Nat.{ℕ}
 use lib.Ieee.{Float, nan}
+use Rattle.std.proofs.lemmas.Result.{err_from_is_err_and}
 use Rattle.limits.specs.Answers.{value, refused, pass}
 use Rattle.limits.specs.Each.{F32}
 use Rattle.limits.proofs.Lists.{each_at}
@@ -29,12 +30,12 @@ module _ (j : Job) (t : List Float) where
 pub ceiling_of-requires : goal.ceiling_of-requires
 ceiling_of-requires c =
     let a = c.args in
-    record { looked = look_passed a.job a.table.now (all a.job a.table.now c.in-Fine.ensures); f32 = each_at F32 nan a.table.now c.type_inv.table }
+    record { looked = look_passed a.job a.table.now (all a.job a.table.now c.in_ok-check.ensures); f32 = each_at F32 nan a.table.now c.type_inv.table }
 
-pub returns-in-Wrong : goal.returns-in-Wrong
-returns-in-Wrong c = refusing c.args.job c.args.table.now _ c.in-Wrong.ensures
+pub returns-in_err-check : goal.returns-in_err-check
+returns-in_err-check c = let p = err_from_is_err_and c.from_residual.result c.from_residual.ensures.1 in rw (p.1, p.2) (refusing c.args.job c.args.table.now _ c.in_err-check.ensures)
 
-pub returns-in-Fine : goal.returns-in-Fine
-returns-in-Fine c =
+pub returns : goal.returns
+returns c =
     let a = c.args in
-    ap (λ (x : Ceiling). value (a.job.best, x)) c.ceiling_of.ensures ∙ passing a.job a.table.now c.in-Fine.ensures
+    ap (λ (x : Ceiling). value (a.job.best, x)) c.ceiling_of.ensures ∙ passing a.job a.table.now c.in_ok-check.ensures

@@ -1,8 +1,6 @@
 -- `pair::place` meets its contract: a row that is taken is not refused, so that hues are placed or none are. Assumes nothing.
-use mathlib.Core.Path.{◌≡◌, sym, ap, ◌∙◌, subst}
+use mathlib.Core.Path.{subst}
 use lib.ListN.{length}
-use Rattle.std.specs.Prelude.{Option, Ok}
-use Rattle.placement_rules.specs.declared.Placement.{Placement}
 use Rattle.placement_rules.specs.Placing.{placement_says, Gives}
 use Rattle.pair.proofs.Climbing.{tried, not_refused}
 use Rattle.pair.proofs.place.Goals as goal

@@ -6,26 +6,26 @@ use Rattle.palette.proofs.Ready.{few_hues, levels_in_range, hue_in, long}
 use Rattle.palette.proofs.Colors.{dark_at_lem, light_at_lem}
 use Rattle.palette.proofs.color_at.Goals as goal
 
-pub offset_bounds-hues-i : goal.offset_bounds-hues-i
-offset_bounds-hues-i c = let f = few_hues c.requires.0 in omega arith
+pub offset_bounds-design-i : goal.offset_bounds-design-i
+offset_bounds-design-i c = let f = few_hues c.requires.0 in omega arith
 
-pub bounds-hues-i : goal.bounds-hues-i
-bounds-hues-i c = let f = few_hues c.requires.0 in omega arith
+pub bounds-design-i : goal.bounds-design-i
+bounds-design-i c = let f = few_hues c.requires.0 in omega arith
 
 pub color_of-requires : goal.color_of-requires
 color_of-requires c =
     let s = c.before.before.before.before in
     let l = levels_in_range s.requires.0 in
-    (omega arith, hue_in s.requires.0 s.args.i c.if-i-k.true, (long s.requires.0).0, (long s.requires.0).1)
+    (omega arith, hue_in s.requires.0 s.args.i c.if-i-design.true, (long s.requires.0).0, (long s.requires.0).1)
 
-pub returns-then-i-k : goal.returns-then-i-k
-returns-then-i-k c =
+pub returns-then-i-design : goal.returns-then-i-design
+returns-then-i-design c =
     let a = c.args in
     let few = few_hues c.requires.0 in
-    c.color_of.ensures ∙ sym (dark_at_lem a.design a.chroma a.cos.now a.sin.now (omega arith) a.i c.if-i-k.true)
+    c.color_of.ensures ∙ sym (dark_at_lem a.design a.chroma a.cos.now a.sin.now (omega arith) a.i c.if-i-design.true)
 
-pub bounds-hues-i-2 : goal.bounds-hues-i-2
-bounds-hues-i-2 c = let f = few_hues c.requires.0 in omega arith
+pub bounds-design-i-2 : goal.bounds-design-i-2
+bounds-design-i-2 c = let f = few_hues c.requires.0 in omega arith
 
 pub color_of-requires-2 : goal.color_of-requires-2
 color_of-requires-2 c =
@@ -36,4 +36,4 @@ pub returns : goal.returns
 returns c =
     let a = c.args in
     let few = few_hues c.requires.0 in
-    c.color_of-2.ensures ∙ sym (light_at_lem a.design a.chroma a.cos.now a.sin.now (omega arith) a.i c.if-i-k.false c.requires.1)
+    c.color_of-2.ensures ∙ sym (light_at_lem a.design a.chroma a.cos.now a.sin.now (omega arith) a.i c.if-i-design.false c.requires.1)

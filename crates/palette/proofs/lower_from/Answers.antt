@@ -25,30 +25,22 @@ judge_is d cs ss c colors m v e f g = sym (g ∙ ap (λ (x : Metrics). first_of 
 
 pub loop-last-init : goal.loop-last-init
 unfolding end_of
-loop-last-init c =
-    let s = c.before.before in
-    (taken_low s.args.chroma (subst T (sym s.well_formed.1.0.1) tt) s.requires.1, (0, (refl, refl)))
+loop-last-init c = (taken_low c.args.chroma (subst T (sym c.well_formed.1.0.1) tt) c.requires.1, (0, (refl, (refl, refl))))
 
-pub colors_of-colors-requires : goal.colors_of-colors-requires
-colors_of-colors-requires c = c.requires.0
+pub first_finding-requires : goal.first_finding-requires
+first_finding-requires c = few_hues c.requires.0
 
-pub measure-requires : goal.measure-requires
-measure-requires c = let r = c.requires.0 in record { hue_count = r.hue_count; directions = r.directions }
-
-pub first_finding-verdict-requires : goal.first_finding-verdict-requires
-first_finding-verdict-requires c = few_hues c.requires.0
-
-pub returns-in-Passed : goal.returns-in-Passed
-returns-in-Passed c =
+pub returns-in-None : goal.returns-in-None
+returns-in-None c =
     let a = c.args in
     let i = c.loop-last.invariant.1 in
     let t : tried c.loop-last.c ≡ true = sym c.tried.ensures ∙ c.loop-last-test.true in
     let found : judge_at a.design a.cos.now a.sin.now c.loop-last.c ≡ passed =
-    judge_is a.design a.cos.now a.sin.now c.loop-last.c c.colors_of-colors.result c.measure.result (verdict_said c.first_finding-verdict.result)
-    c.colors_of-colors.ensures c.measure.ensures c.first_finding-verdict.ensures
-    ∙ ap verdict_said c.in-Passed.is in
-    let e : passes c.loop-last.c ≡ end_of (judge_at a.design a.cos.now a.sin.now) a.chroma = sym (passing (judge_at a.design a.cos.now a.sin.now) c.loop-last.c i.0 c.loop-last.invariant.0 t found) ∙ i.1.1 in
-    (ap value e, c.colors_of-colors.ensures ∙ ap (λ (x : Ending). colors_after a.design a.cos.now a.sin.now (value x)) e)
+    judge_is a.design a.cos.now a.sin.now c.loop-last.c c.colors_of-colors.result c.measure.result (verdict_said c.first_finding.result)
+    c.colors_of-colors.ensures c.measure.ensures c.first_finding.ensures
+    ∙ ap verdict_said c.in-None.is in
+    let e : passes c.loop-last.c ≡ end_of (judge_at a.design a.cos.now a.sin.now) a.chroma = sym (passing (judge_at a.design a.cos.now a.sin.now) c.loop-last.c i.0 c.loop-last.invariant.0 t found) ∙ i.1.1.1 in
+    (e, c.colors_of-colors.ensures ∙ ap (λ (x : Ending). colors_after a.design a.cos.now a.sin.now (value x)) e)
 
 pub loop-last-smaller : goal.loop-last-smaller
 unfolding lower round of_bits
@@ -61,16 +53,16 @@ loop-last-preserved c =
     let i = c.loop-last.invariant.1 in
     let low = c.loop-last.invariant.0 in
     let t : tried c.loop-last.c ≡ true = sym c.tried.ensures ∙ c.loop-last-test.true in
-    let n = finding_number c.in-Found.f in
+    let n = finding_number c.in-Some.found in
     let found : judge_at a.design a.cos.now a.sin.now c.loop-last.c ≡ finding n =
-    judge_is a.design a.cos.now a.sin.now c.loop-last.c c.colors_of-colors.result c.measure.result (verdict_said c.first_finding-verdict.result)
-    c.colors_of-colors.ensures c.measure.ensures c.first_finding-verdict.ensures
-    ∙ ap verdict_said c.in-Found.is in
-    ((lowered c.loop-last.c low t).0, (n, (refl, sym (lowering (judge_at a.design a.cos.now a.sin.now) c.loop-last.c i.0 n low t found) ∙ i.1.1)))
+    judge_is a.design a.cos.now a.sin.now c.loop-last.c c.colors_of-colors.result c.measure.result (verdict_said c.first_finding.result)
+    c.colors_of-colors.ensures c.measure.ensures c.first_finding.ensures
+    ∙ ap verdict_said c.in-Some.is in
+    ((lowered c.loop-last.c low t).0, (n, (refl, (refl, sym (lowering (judge_at a.design a.cos.now a.sin.now) c.loop-last.c i.0 n low t found) ∙ i.1.1.1))))
 
 pub returns : goal.returns
 returns c =
     let a = c.args in
     let i = c.loop-last.invariant.1 in
-    let e : lastly i.0 ≡ end_of (judge_at a.design a.cos.now a.sin.now) a.chroma = sym (untried (judge_at a.design a.cos.now a.sin.now) c.loop-last.c i.0 (sym c.tried.ensures ∙ c.loop-last-test.false)) ∙ i.1.1 in
-    (i.1.0 ∙ ap value e, c.no_colors.ensures ∙ ap (λ (x : Ending). colors_after a.design a.cos.now a.sin.now (value x)) e)
+    let e : lastly i.0 ≡ end_of (judge_at a.design a.cos.now a.sin.now) a.chroma = sym (untried (judge_at a.design a.cos.now a.sin.now) c.loop-last.c i.0 (sym c.tried.ensures ∙ c.loop-last-test.false)) ∙ i.1.1.1 in
+    (i.1.0 ∙ e, i.1.1.0 ∙ ap (λ (x : Ending). colors_after a.design a.cos.now a.sin.now (value x)) e)

@@ -3,14 +3,15 @@
 use mathlib.Core.Path.{◌≡◌}
 use Prim.Native.Nat.{ℕ}
 use lib.Ieee.{binary32, to_bits}
-use Rattle.limits.specs.Answers.{value}
-use Rattle.palette.specs.BackOff.{lastly, end_after, end_of, judge_at, back_off_said}
+use lib.ListN.{replicate}
+use Rattle.palette.specs.BackOff.{lastly, end_after, end_of, judge_at, ending_of, colors_in}
+use Rattle.palette.specs.Derivation.{black}
 use Rattle.palette.proofs.Lowering.{Low}
 use Rattle.palette.proofs.lower_from.Given as goal
 
 abbrev pub invariant-loop-last : goal.invariant-loop-last
 invariant-loop-last l =
-    Low l.c × ((n : ℕ) × ((back_off_said l.last ≡ value (lastly n)) × (end_after (judge_at l.design l.cos l.sin) l.c n ≡ end_of (judge_at l.design l.cos l.sin) l.chroma)))
+    Low l.c × ((n : ℕ) × ((ending_of l.last ≡ lastly n) × ((colors_in l.last ≡ replicate 32 black) × (end_after (judge_at l.design l.cos l.sin) l.c n ≡ end_of (judge_at l.design l.cos l.sin) l.chroma))))
 
 abbrev pub decreases-loop-last : goal.decreases-loop-last
 decreases-loop-last l = to_bits binary32 l.c

@@ -16,12 +16,17 @@ returns-in_err-check-clause-gives c =
     let e = refusing a.k a.step a.c a.m.now (length a.work.now) c.check.result _ (c.in_err-check.was) c.check.ensures in
     rw (p.1, p.2, e) (record { says = refl; tightest_is = refl })
 
+pub invariant_of-ring : goal.invariant_of-ring
+invariant_of-ring c =
+    let a = c.args in
+    record { asked = (asked a.k a.step a.c a.m.now (length a.work.now) (passed a.k a.step a.c a.m.now (length a.work.now) c.check.result c.in_ok-check.was c.check.ensures)).0 }
+
 pub place-requires : goal.place-requires
 unfolding work_needed
 place-requires c =
     let a = c.args in
-    let fine = asked a.k a.step a.c a.m.now (length a.work.now) (passed a.k a.step a.c a.m.now (length a.work.now) c.check.result (c.in_ok-check.was) c.check.ensures) in
-    (fine.0, omega (arith, fine.1))
+    let room = (asked a.k a.step a.c a.m.now (length a.work.now) (passed a.k a.step a.c a.m.now (length a.work.now) c.check.result c.in_ok-check.was c.check.ensures)).1 in
+    omega (arith, room)
 
 pub returns-clause-gives : goal.returns-clause-gives
 returns-clause-gives c =

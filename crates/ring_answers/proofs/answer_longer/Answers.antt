@@ -4,4 +4,4 @@ use Rattle.ring_answers.proofs.Answering.{malformed_said}
 use Rattle.ring_answers.proofs.answer_longer.Goals as goal
 
 pub returns : goal.returns
-returns c = malformed_said (search rules) (rw c.malformed.ensures at c.put_answer.ensures)
+returns c = malformed_said (search rules) c.put_answer.ensures

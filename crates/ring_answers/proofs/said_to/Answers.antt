@@ -6,4 +6,4 @@ pub returns-in-Some : goal.returns-in-Some
 returns-in-Some c = says_asked _ _ c.in-Some.ensures c.place.ensures
 
 pub returns-in-None : goal.returns-in-None
-returns-in-None c = says_malformed _ c.in-None.ensures c.malformed.ensures
+returns-in-None c = says_malformed _ c.in-None.ensures

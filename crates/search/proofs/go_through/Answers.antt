@@ -1,70 +1,48 @@
 -- `search::go_through` meets its contract: each answer of the pair is carried over to the job. Assumes nothing.
-use mathlib.Core.Path.{refl, sym, ◌∙◌}
+use mathlib.Core.Path.{◌≡◌, sym, ap, ◌∙◌}
 use native.Mathlib.Omega.{arith}
-use Rattle.limits.specs.Refusals.{number}
+use Rattle.limits.specs.Answers.{value}
 use Rattle.limits.proofs.Checks.{said_twice}
+use Rattle.search_rules.specs.declared.Job.{Job}
+use Rattle.search_rules.specs.Job.{moved_on, searched}
 use Rattle.search_rules.proofs.Unbroken.{sound}
-use Rattle.search.proofs.Going.{passed_over, went_refused, given_refused, went_nowhere, went_better, went_worse}
-use Rattle.search.proofs.Giving.{accepting, refusing}
+use Rattle.search.proofs.Going.{passed_over, went_refused, went_nowhere, went_better, went_worse}
+use Rattle.search.proofs.Giving.{accepting, passing_on}
 use Rattle.search.proofs.go_through.Goals as goal
+use Rattle.search.proofs.go_through.Goals.{then-qualifies+in_ok-chosen+in-Some+then-beats, then-qualifies+in_ok-chosen+in-Some+else-beats, then-qualifies+in_ok-chosen+in_default, else-qualifies}
 
 pub overflow_cast-dark : goal.overflow_cast-dark
 overflow_cast-dark c =
-    let d = c.requires.dark_in in
-    let few = (sound c.args.job c.requires.sound).few_levels in
-    omega arith
+    let few = (sound c.args.job.now c.requires.sound).few_levels in
+    omega (arith, c.requires.dark_in)
 
 pub overflow_cast-light : goal.overflow_cast-light
 overflow_cast-light c =
-    let l = c.requires.light_in in
-    let few = (sound c.args.job c.requires.sound).few_levels in
-    omega arith
+    let few = (sound c.args.job.now c.requires.sound).few_levels in
+    omega (arith, c.requires.light_in)
 
-pub returns-then-not-qualifies : goal.returns-then-not-qualifies
-returns-then-not-qualifies c =
+pub returns-in_err-chosen-clause-gives : goal.returns-in_err-chosen-clause-gives
+returns-in_err-chosen-clause-gives c =
     let a = c.args in
-    let e = passed_over a.job a.table.now a.dark a.light (sym c.qualifies.ensures ∙ c.if-not-qualifies.true) in
-    record { gives = accepting a.job c.moved_on.ensures e c.accept.ensures; untouched = λ w again. refl }
+    let far = sym c.qualifies.ensures ∙ c.if-qualifies.true in
+    let w = c.in_err-chosen.field-0.0 in
+    passing_on a.job.now c.from_residual.result w c.from_residual.ensures.1 (went_refused a.job.now a.table.now a.dark a.light far w c.in_err-chosen.ensures.gives)
 
-pub returns-then-beats : goal.returns-then-beats
-returns-then-beats c =
+pub returns : goal.returns
+returns c =
     let a = c.args in
-    let far = sym c.qualifies.ensures ∙ c.if-not-qualifies.false in
-    let given = c.best_of-chosen.ensures in
-    let hues = c.best_of-chosen.result.hues in
-    let answer = c.best_of-chosen.result.answer in
-    let better = sym c.beats.ensures ∙ c.if-beats.true in
-    let e = went_better a.job a.table.now a.dark a.light far answer hues given.gives.says c.in-Found.c c.in-Found.is c.best_of-chosen.result.tightest given.gives.tightest_is better in
-    record { gives = accepting a.job c.replaced.ensures e c.accept-then-beats.ensures; untouched = λ w again. said_twice e again }
-
-pub returns-in-Refused : goal.returns-in-Refused
-returns-in-Refused c =
-    let a = c.args in
-    let far = sym c.qualifies.ensures ∙ c.if-not-qualifies.false in
-    let given = c.best_of-chosen.ensures in
-    let hues = c.best_of-chosen.result.hues in
-    let answer = c.best_of-chosen.result.answer in
-    let e = went_refused a.job a.table.now a.dark a.light far answer hues given.gives.says c.in-Refused.why c.in-Refused.is in
-    let f = given_refused a.job a.table.now a.dark a.light far answer hues given.gives.says c.in-Refused.why c.in-Refused.is in
-    record { gives = refusing e c.refuse.ensures; untouched = λ w again. given.untouched (number c.in-Refused.why) f }
-
-pub returns-in-Nothing : goal.returns-in-Nothing
-returns-in-Nothing c =
-    let a = c.args in
-    let far = sym c.qualifies.ensures ∙ c.if-not-qualifies.false in
-    let given = c.best_of-chosen.ensures in
-    let hues = c.best_of-chosen.result.hues in
-    let answer = c.best_of-chosen.result.answer in
-    let e = went_nowhere a.job a.table.now a.dark a.light far answer hues given.gives.says c.in-Nothing.is in
-    record { gives = accepting a.job c.moved_on-in-Nothing.ensures e c.accept-in-Nothing.ensures; untouched = λ w again. said_twice e again }
-
-pub returns-else-beats : goal.returns-else-beats
-returns-else-beats c =
-    let a = c.args in
-    let far = sym c.qualifies.ensures ∙ c.if-not-qualifies.false in
-    let given = c.best_of-chosen.ensures in
-    let hues = c.best_of-chosen.result.hues in
-    let answer = c.best_of-chosen.result.answer in
-    let worse = sym c.beats.ensures ∙ c.if-beats.false in
-    let e = went_worse a.job a.table.now a.dark a.light far answer hues given.gives.says c.in-Found.c c.in-Found.is worse in
-    record { gives = accepting a.job c.moved_on-in-Found.ensures e c.accept-in-Found.ensures; untouched = λ w again. said_twice e again }
+    let j = a.job.now in
+    let t = a.table.now in
+    let moved = λ (j : Job). value (moved_on j) in
+    let e : searched j t a.dark a.light ≡ value (moved_on c.if-qualifies.job) = elim c.if-qualifies.branch [
+      | then-qualifies+in_ok-chosen+in-Some+then-beats w ↦
+          went_better j t a.dark a.light (sym c.qualifies.ensures ∙ w.if-qualifies.true) w.in_ok-chosen.field-0 w.in_ok-chosen.ensures.gives w.in-Some.chosen w.in-Some.is (sym w.beats.ensures ∙ w.if-beats.true)
+          ∙ ap moved (sym w.job-is)
+      | then-qualifies+in_ok-chosen+in-Some+else-beats w ↦
+          went_worse j t a.dark a.light (sym c.qualifies.ensures ∙ w.if-qualifies.true) w.in_ok-chosen.field-0 w.in_ok-chosen.ensures.gives w.in-Some.chosen w.in-Some.is (sym w.beats.ensures ∙ w.if-beats.false)
+          ∙ ap moved (sym w.job-is)
+      | then-qualifies+in_ok-chosen+in_default w ↦
+          went_nowhere j t a.dark a.light (sym c.qualifies.ensures ∙ w.if-qualifies.true) w.in_ok-chosen.field-0 w.in_ok-chosen.ensures.gives w.in_default.is ∙ ap moved (sym w.job-is)
+      | else-qualifies w ↦ passed_over j t a.dark a.light (sym c.qualifies.ensures ∙ w.if-qualifies.false) ∙ ap moved (sym w.job-is)
+    ] in
+    record { gives = accepting j e; untouched = λ w again. said_twice e again }

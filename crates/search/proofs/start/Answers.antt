@@ -1,21 +1,21 @@
 -- `search::start` meets its contract: the check says what is refused, and the rest is the job at the beginning. Assumes nothing.
+use mathlib.Core.Path.{ap, sym, ◌∙◌}
 use Rattle.limits.specs.Answers.{value}
 use Rattle.gamut.specs.Table.{levels_in}
 use Rattle.search_rules.specs.Job.{begun, start_says}
 use Rattle.search.proofs.Checking.{start_fine, start_wrong}
-use Rattle.search.proofs.Giving.{accepting, refusing}
+use Rattle.search.proofs.Giving.{accepting, passing_on}
 use Rattle.search.proofs.start.Goals as goal
 
-pub returns-in-Wrong : goal.returns-in-Wrong
+pub returns-in_err-check_start : goal.returns-in_err-check_start
 unfolding start_says
-returns-in-Wrong c =
+returns-in_err-check_start c =
     let a = c.args in
-    let e = start_wrong a.settings a.table.now c.check_start-checked.result c.check_start-checked.ensures (value (begun a.settings (levels_in a.table.now))) c.in-Wrong.why c.in-Wrong.is in
-    refusing e c.refuse.ensures
+    let w = c.in_err-check_start.field-0.0 in
+    passing_on a.job.now c.from_residual.result w c.from_residual.ensures.1 (start_wrong a.settings a.table.now (value (begun a.settings (levels_in a.table.now))) w c.in_err-check_start.ensures)
 
-pub returns-in-Fine : goal.returns-in-Fine
+pub returns : goal.returns
 unfolding start_says levels_in
-returns-in-Fine c =
+returns c =
     let a = c.args in
-    let e = start_fine a.settings a.table.now c.check_start-checked.result c.check_start-checked.ensures (value (begun a.settings (levels_in a.table.now))) c.in-Fine.is in
-    accepting a.job c.begin.ensures e c.accept.ensures
+    accepting a.job.now (start_fine a.settings a.table.now (value (begun a.settings (levels_in a.table.now))) c.in_ok-check_start.ensures ∙ ap value (sym c.begin.ensures))

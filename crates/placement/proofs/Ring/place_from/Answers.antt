@@ -1,20 +1,20 @@
--- `placement::place_from` meets its contract. The invariant is `Turn`: what was asked at entry, and that what is stored so far, with the rest of the definition from cur
+-- `Ring::place_from` meets its contract. The invariant is `Turn`: what was asked at entry, and that what is stored so far, with the rest of the definition from cur
 -- on, is the whole. Assumes nothing.
 use mathlib.Core.Path.{◌∙◌}
 use Rattle.placement.proofs.Table.{allowed_there}
 use Rattle.placement.proofs.Placing.{hands_same, hands_none}
 use Rattle.placement.proofs.Turns.{not_begun, begun, past, none_ahead, turned, gap_short, gap_enough, all_stored}
-use Rattle.placement.proofs.place_from.Goals as goal
+use Rattle.placement.proofs.Ring.place_from.Goals as goal
 
-pub returns-then-not-c-m : goal.returns-then-not-c-m
-returns-then-not-c-m c =
-    let a = c.args in
-    hands_none _ _ (not_begun a.m.now a.c a.k a.step a.start (allowed_there a.m.now a.c a.start c.requires.1.1 ∙ c.if-not-c-m.true))
+pub returns-then-not-self-start : goal.returns-then-not-self-start
+returns-then-not-self-start c =
+    let a = c.args.self.now in
+    hands_none _ _ (not_begun a.m.now a.c a.k a.step c.args.start (allowed_there a.m.now a.c c.args.start c.requires.1 ∙ c.if-not-self-start.true))
 
 pub loop-at-init : goal.loop-at-init
 loop-at-init c =
-    let a = c.args in
-    begun c.requires.0 c.requires.1.0 c.requires.1.1 (allowed_there a.m.now a.c a.start c.requires.1.1 ∙ c.if-not-c-m.false)
+    let a = c.args.self.now in
+    begun a.asked c.requires.0 c.requires.1 (allowed_there a.m.now a.c c.args.start c.requires.1 ∙ c.if-not-self-start.false)
 
 pub returns-then-stop-from : goal.returns-then-stop-from
 returns-then-stop-from c = hands_none _ _ (past c.loop-at.invariant c.loop-at-test.true c.if-stop-from.true)
