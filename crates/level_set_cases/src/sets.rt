@@ -43,18 +43,16 @@ impl Levels {
 
 // What came out of a set; the work buffer is as it was left.
 fn came_out(chosen: Result<Option<Chosen>, Refusal>, work: &[u16]) -> Answer {
-    let answer = Answer::after(&chosen);
-    match chosen {
-        Ok(Some(best)) => answer
+    let number = Answer::after(&chosen);
+    let answer = match chosen {
+        Ok(Some(best)) => number
             .with(1)
             .with_float(best.chroma)
             .with_size(best.tightest)
             .with_hues(best.hues),
-        Ok(None) => answer.with_zeros(19),
-        Err(_) => answer
-            .with_zeros(19)
-            .with_digest(work_buffer::digest_of(work)),
-    }
+        Ok(None) | Err(_) => number.with_zeros(19),
+    };
+    answer.with_left(&chosen, work)
 }
 
 // What comes out of a set of levels of a table, for the line with this number, in a work buffer of this length.
