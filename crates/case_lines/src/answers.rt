@@ -1,5 +1,6 @@
 // Answers to the lines of a list, each on a line of standard output: to a case its operation and its words as they were read,
 // a `=`, and the words of what came out; to a line that a list may not have `malformed`.
+use crate::work_buffer;
 use cases::{Line, MOST};
 use limits::Refusal;
 use std::fmt;
@@ -69,6 +70,14 @@ impl Answer {
     pub fn with_hues(self, hues: [u16; 16]) -> Answer {
         hues.iter()
             .fold(self, |answer, hue| answer.with(u32::from(*hue)))
+    }
+
+    // After a call that was refused, with the digest of the work buffer that it left; after an accepted one what that holds is free.
+    pub fn with_left<T>(self, outcome: &Result<T, Refusal>, work: &[u16]) -> Answer {
+        match outcome {
+            Ok(_) => self,
+            Err(_) => self.with_digest(work_buffer::digest_of(work)),
+        }
     }
 
     // Writes it as the answer to a case.

@@ -1,7 +1,7 @@
 // Entries of a ring or a row, set by the words of a line.
 
 // How many entries a ring or a row can have.
-pub const LONGEST: usize = 800;
+const LONGEST: usize = 800;
 
 // A ring or a row: its first entries up to its length.
 #[derive(Clone, Copy)]

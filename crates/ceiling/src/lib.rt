@@ -57,7 +57,7 @@ fn tops_of(table: &[f32]) -> [f32; 169]
     tops
 }
 
-// The ceiling so far with one more number.
+// The ceiling so far with one more number, by one comparison: `f32::max` leaves open which of two zeros it gives.
 #[tactic(auto, unfolding(pair_rules::specs::Rows::greater))]
 fn raised(x: f32, so: Option<f32>) -> f32
     ensures { at_most result ≡ raised x (ceiling_said so) }
@@ -84,6 +84,7 @@ fn with_pair(
     if !search_checks::qualifies(settings, dark as u16, light as u16) {
         return so;
     }
+    // one comparison: `f32::min` leaves open which of two zeros it gives
     let lesser = if b < a { b } else { a };
     Some(raised(lesser, so))
 }

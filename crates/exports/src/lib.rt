@@ -321,7 +321,12 @@ pub extern "C" fn tengcuvo_back_off(
         hues: indices,
     };
     match palette::back_off(design, chroma, cos, sin) {
-        Ok(BackOff::Passed { chroma: reached, colors: shown }) => {
+        Ok(
+            BackOff::Passed {
+                chroma: reached,
+                colors: shown,
+            },
+        ) => {
             *colors = hexes_of(shown);
             *passed = [reached];
             0

@@ -2,8 +2,9 @@
 use crate::numbers::{Halves, Metric, exact};
 use crate::show;
 use crate::words::{Found, Refused};
+use limits::Refusal;
 use metrics::Metrics;
-use palette::{BackOff, Design, Validation, Verdict};
+use palette::{Design, Validation};
 use srgb::Srgb8;
 
 // Writes the four metrics.
@@ -16,16 +17,16 @@ fn metric_lines(rt: &impl Print, metrics: Metrics) {
 }
 
 // Writes what validation says: the metrics, and the first finding or that there is none.
-pub fn validation(rt: &impl Print, said: Validation) {
+pub fn validation(rt: &impl Print, said: Result<Validation, Refusal>) {
     let _ = match said {
-        Validation::Refused(why) => println!(rt; "{}", Refused(why)),
-        Validation::Measured(metrics, verdict) => {
+        Ok(Validation { metrics, finding }) => {
             metric_lines(rt, metrics);
-            match verdict {
-                Verdict::Passed => println!(rt; "no finding"),
-                Verdict::Found(finding) => println!(rt; "{}", Found(finding)),
+            match finding {
+                Some(finding) => println!(rt; "{}", Found(finding)),
+                None => println!(rt; "no finding"),
             }
         }
+        Err(why) => println!(rt; "{}", Refused(why)),
     };
 }
 
@@ -40,33 +41,34 @@ fn level_lines(rt: &impl Print, level: usize, hues: &[u16], colors: &[Srgb8]) {
 }
 
 // Writes the least chroma that colours have, by what validation says of them.
-pub fn least(rt: &impl Print, said: Validation) {
+fn least(rt: &impl Print, said: Result<Validation, Refusal>) {
     let _ = match said {
-        Validation::Refused(why) => println!(rt; "{}", Refused(why)),
-        Validation::Measured(metrics, _) => {
-            println!(rt; "least chroma of its colours {}", Metric(metrics.chroma))
+        Ok(validation) => {
+            println!(rt;
+                "least chroma of its colours {}",
+                Metric(validation.metrics.chroma)
+            )
         }
+        Err(why) => println!(rt; "{}", Refused(why)),
     };
 }
 
 // Writes the colours of a design: the first k are dark, and the k after them light.
-pub fn lines(rt: &impl Print, design: Design, colors: [Srgb8; 32]) {
+fn lines(rt: &impl Print, design: Design, colors: [Srgb8; 32]) {
     let k = design.k.min(16);
     level_lines(rt, design.dark, &design.hues[..k], &colors[..k]);
     level_lines(rt, design.light, &design.hues[..k], &colors[k..]);
 }
 
-// Writes what back-off says of a design, and says whether a chroma passed.
-pub fn passes(rt: &impl Print, answer: BackOff) -> bool {
-    let _ = print!(rt; "backed off, this design alone: ");
-    let _ = match answer {
-        BackOff::Passed(chroma) => println!(rt; "no finding at chroma {}", exact(chroma)),
-        BackOff::Untried => println!(rt; "no chroma tried"),
-        BackOff::Found(finding) => println!(rt;
-            "every chroma tried down to 35 has a finding, the last one {}",
-            Found(finding)
-        ),
-        BackOff::Refused(why) => println!(rt; "{}", Refused(why)),
-    };
-    matches!(answer, BackOff::Passed(_))
+// Writes the chroma that passed, and the colours, by what validation says of them.
+pub fn passed(
+    rt: &impl Print,
+    design: Design,
+    chroma: f32,
+    colors: [Srgb8; 32],
+    said: Result<Validation, Refusal>,
+) {
+    let _ = println!(rt; "no finding at chroma {}", exact(chroma));
+    least(rt, said);
+    lines(rt, design, colors);
 }

@@ -123,7 +123,9 @@ fn read_full(reader: &mut impl Read, buffer: &mut [u8]) -> usize {
     done
 }
 
-// What standard input asks, which is read to its end.
+// What standard input asks, which is read to its end. Not part of its caller's code: its buffer is off the stack before the table is
+// on it.
+#[inline(never)]
 pub fn read(rt: &(impl Input + Print)) -> Option<Asked> {
     let mut buffer = [0; ROOM];
     let mut reader = rt.reader();

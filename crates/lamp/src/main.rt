@@ -14,36 +14,48 @@ mod table;
 mod words;
 
 use input::Asked;
-use palette::{Derivation, Design, Validation};
+use limits::Refusal;
+use palette::{BackOff, Design, Validation};
 use search::{Best, Job, Settings};
 use srgb::Srgb8;
-use words::Refused;
+use words::{Found, Refused};
 
 // What validation says of the colours of k hues.
-fn measured(k: usize, colors: [Srgb8; 32], cos: &[f32], sin: &[f32]) -> Validation {
+fn measured(
+    k: usize,
+    colors: [Srgb8; 32],
+    cos: &[f32],
+    sin: &[f32],
+) -> Result<Validation, Refusal> {
     palette::validate(k, colors, k.wrapping_add(k), cos, sin)
 }
 
 // Derives a design's palette at the chroma found, and writes what validation says of it.
 fn derive(rt: &impl Print, design: Design, chroma: f32, cos: &[f32], sin: &[f32]) {
-    let derived = palette::derive(design, chroma, cos, sin);
-    match derived.answer {
-        Derivation::Refused(why) => {
+    match palette::derive(design, chroma, cos, sin) {
+        Ok(colors) => colors::validation(rt, measured(design.k, colors, cos, sin)),
+        Err(why) => {
             let _ = println!(rt; "{}", Refused(why));
-        }
-        Derivation::Derived => {
-            colors::validation(rt, measured(design.k, derived.colors, cos, sin));
         }
     }
 }
 
 // Backs off from the chroma found, and writes what comes of it: of the chroma that passed, what is measured and the colours.
 fn back_off(rt: &impl Print, design: Design, chroma: f32, cos: &[f32], sin: &[f32]) {
-    let back = palette::back_off(design, chroma, cos, sin);
-    if colors::passes(rt, back.answer) {
-        colors::least(rt, measured(design.k, back.colors, cos, sin));
-        colors::lines(rt, design, back.colors);
-    }
+    let _ = print!(rt; "backed off, this design alone: ");
+    let _ = match palette::back_off(design, chroma, cos, sin) {
+        Ok(BackOff::Passed { chroma, colors }) => {
+            let said = measured(design.k, colors, cos, sin);
+            colors::passed(rt, design, chroma, colors, said);
+            Ok(())
+        }
+        Ok(BackOff::Untried) => println!(rt; "no chroma tried"),
+        Ok(BackOff::Found(finding)) => println!(rt;
+            "every chroma tried down to 35 has a finding, the last one {}",
+            Found(finding)
+        ),
+        Err(why) => println!(rt; "{}", Refused(why)),
+    };
 }
 
 // Writes what a search found, with its colours.

@@ -65,7 +65,8 @@ fn check(table: &[f32], levels: &[usize], room: usize) -> Result<(), Refusal>
     Ok(())
 }
 
-// Lowers each number of a row to the entry of another where that is less.
+// Lowers each number of a row to the entry of another where that is less, by one comparison: `f32::min` leaves open which of two zeros it
+// gives.
 fn lower(by: &[f32], row: &mut [f32])
     requires { Long by.now row.old }
     ensures { Lowered by.now row.old row.new }
@@ -87,8 +88,8 @@ fn lower_all(table: &[f32], levels: &[usize], row: &mut [f32])
 }
 
 // The best chroma at which k hues, at least the step for k apart all round, have an entry of at least it at each level named, to within
-// 2^-15, by 30 halvings from 0; nothing where no hue has a value above 0. With the hues comes their smallest gap round the circle. Indices may repeat. The work buffer's content is left free where
-// the call is accepted, and does not matter.
+// 2^-15, by 30 halvings from 0; none where no hue has a value above 0. With the hues comes their smallest gap round the circle. Indices
+// may repeat. The work buffer's content is left free where the call is accepted, and does not matter.
 pub fn best_for_level_set(
     table: &[f32],
     levels: &[usize],

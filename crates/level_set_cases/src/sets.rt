@@ -2,6 +2,7 @@
 use case_lines::answers::Answer;
 use case_lines::work_buffer;
 use level_set::Chosen;
+use limits::Refusal;
 
 // How many level indices a line can list.
 const LISTED: usize = 23;
@@ -41,26 +42,17 @@ impl Levels {
 }
 
 // What came out of a set; the work buffer is as it was left.
-fn came_out(chosen: Chosen, work: &[u16]) -> Answer {
-    let none = Answer::new();
-    let hues = chosen.hues;
-    let gap = chosen.tightest;
-    match chosen.answer {
-        level_set::Answer::Found(chroma) => none
-            .with(0)
+fn came_out(chosen: Result<Option<Chosen>, Refusal>, work: &[u16]) -> Answer {
+    let number = Answer::after(&chosen);
+    let answer = match chosen {
+        Ok(Some(best)) => number
             .with(1)
-            .with_float(chroma)
-            .with_size(gap)
-            .with_hues(hues),
-        level_set::Answer::Nothing => none.with(0).with(0).with(0).with_size(gap).with_hues(hues),
-        level_set::Answer::Refused(why) => none
-            .with_byte(why.number())
-            .with(0)
-            .with(0)
-            .with_size(gap)
-            .with_hues(hues)
-            .with_digest(work_buffer::digest_of(work)),
-    }
+            .with_float(best.chroma)
+            .with_size(best.tightest)
+            .with_hues(best.hues),
+        Ok(None) | Err(_) => number.with_zeros(19),
+    };
+    answer.with_left(&chosen, work)
 }
 
 // What comes out of a set of levels of a table, for the line with this number, in a work buffer of this length.

@@ -49,7 +49,7 @@ fn replaces(chroma: f32, best: Option<Kept>) -> bool
     }
 }
 
-// The lesser of two numbers.
+// The lesser of two numbers, by one comparison: `f32::min` leaves open which of two zeros it gives.
 #[tactic(auto, unfolding(pair_rules::specs::Rows::lesser))]
 fn lesser(x: f32, y: f32) -> f32
     ensures { result ≡ lesser x y }

@@ -4,20 +4,19 @@ use case_lines::work_buffer;
 use limits::Refusal;
 use pair::Chosen;
 
-// What came out of a pair; the work buffer is as it was left.
+// What came out of a pair; the work buffer is as it was left. `level_set_cases` has the same: there is no crate of test code over
+// `pair_rules` that both stand on.
 fn came_out(chosen: Result<Option<Chosen>, Refusal>, work: &[u16]) -> Answer {
-    let answer = Answer::after(&chosen);
-    match chosen {
-        Ok(Some(best)) => answer
+    let number = Answer::after(&chosen);
+    let answer = match chosen {
+        Ok(Some(best)) => number
             .with(1)
             .with_float(best.chroma)
             .with_size(best.tightest)
             .with_hues(best.hues),
-        Ok(None) => answer.with_zeros(19),
-        Err(_) => answer
-            .with_zeros(19)
-            .with_digest(work_buffer::digest_of(work)),
-    }
+        Ok(None) | Err(_) => number.with_zeros(19),
+    };
+    answer.with_left(&chosen, work)
 }
 
 // What comes out of two rows, by the words of the line with this number, in a work buffer of the length that they say.

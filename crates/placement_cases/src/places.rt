@@ -12,17 +12,15 @@ pub fn step(k: usize) -> Answer {
 
 // What came out of a placement; the work buffer is as it was left.
 fn came_out(found: Result<Option<Placement>, Refusal>, work: &[u16]) -> Answer {
-    let answer = Answer::after(&found);
-    match found {
-        Ok(Some(placed)) => answer
+    let number = Answer::after(&found);
+    let answer = match found {
+        Ok(Some(placed)) => number
             .with(1)
             .with_size(placed.tightest)
             .with_hues(placed.hues),
-        Ok(None) => answer.with_zeros(18),
-        Err(_) => answer
-            .with_zeros(18)
-            .with_digest(work_buffer::digest_of(work)),
-    }
+        Ok(None) | Err(_) => number.with_zeros(18),
+    };
+    answer.with_left(&found, work)
 }
 
 // What comes out of a placement on a ring, by the words of the line with this number, in a work buffer of the length that they say.

@@ -2,7 +2,7 @@
 // Its cases are the lines of `ring`.
 #![tactic(auto)]
 
-ghost use Rattle.std.specs.Prelude.{◌≡◌, ◌≤◌, length, take};
+ghost use Rattle.std.specs.Prelude.{◌≡◌, ◌≤◌, take};
 ghost use Rattle.limits.specs.Answers.{refused};
 ghost use Rattle.limits.specs.Refusals.{number};
 ghost use Rattle.placement_rules.specs.Placing.{placement_says, placement_said};

@@ -9,15 +9,6 @@ fn came_out(outcome: Result<(), Refusal>, job: &Job) -> Answer {
     case_jobs::shown(Answer::after(&outcome), job)
 }
 
-// What came out of a call with a work buffer, which is as it was left.
-fn worked_out(outcome: Result<(), Refusal>, job: &Job, work: &[u16]) -> Answer {
-    let answer = came_out(outcome, job);
-    match outcome {
-        Ok(()) => answer,
-        Err(_) => answer.with_digest(work_buffer::digest_of(work)),
-    }
-}
-
 // What comes out of a start.
 pub fn start(settings: Settings, table: &[f32], job: &mut Job) -> Answer {
     let outcome = search::start(settings, table, job);
@@ -28,7 +19,7 @@ pub fn start(settings: Settings, table: &[f32], job: &mut Job) -> Answer {
 pub fn step(number: u64, room: u32, table: &[f32], job: &mut Job) -> Option<Answer> {
     work_buffer::lend(room as usize, work_buffer::seed_of(number), |work| {
         let outcome = search::step(table, work, job);
-        worked_out(outcome, job, work)
+        came_out(outcome, job).with_left(&outcome, work)
     })
 }
 
@@ -42,7 +33,7 @@ pub fn search(
 ) -> Option<Answer> {
     work_buffer::lend(room as usize, work_buffer::seed_of(number), |work| {
         let outcome = search::search(settings, table, work, job);
-        worked_out(outcome, job, work)
+        came_out(outcome, job).with_left(&outcome, work)
     })
 }
 
