@@ -1,6 +1,7 @@
 // Answers to the lines of a list, each on a line of standard output: to a case its operation and its words as they were read,
 // a `=`, and the words of what came out; to a line that a list may not have `malformed`.
 use cases::{Line, MOST};
+use limits::Refusal;
 use std::fmt;
 
 // The words of what came out of a case, as many as a line can have at most.
@@ -17,6 +18,11 @@ impl Answer {
             words: [0; MOST],
             count: 0,
         }
+    }
+
+    // The number of the refusal that a call gives, or 0.
+    pub fn after<T>(outcome: &Result<T, Refusal>) -> Answer {
+        Answer::new().with_byte(number_of(outcome))
     }
 
     // With one more word.
@@ -48,6 +54,11 @@ impl Answer {
         self.with(patterns::pattern_of(x))
     }
 
+    // With so many zeros.
+    pub fn with_zeros(self, count: usize) -> Answer {
+        (0..count).fold(self, |answer, _| answer.with(0))
+    }
+
     // With a digest, its high half first.
     pub fn with_digest(self, digest: u64) -> Answer {
         self.with((digest >> 32) as u32)
@@ -66,6 +77,14 @@ impl Answer {
         let asked = Words(line.words());
         let said = Words(&self.words[..self.count.min(MOST)]);
         let _ = println!(rt; "{operation}{asked} ={said}");
+    }
+}
+
+// The number of the refusal that a call gives, or 0.
+pub fn number_of<T>(outcome: &Result<T, Refusal>) -> u8 {
+    match outcome {
+        Ok(_) => 0,
+        Err(why) => why.number(),
     }
 }
 

@@ -7,7 +7,6 @@ pub mod answers;
 pub mod digest;
 pub mod entries;
 pub mod hues;
-pub mod words;
 pub mod work_buffer;
 
 use cases::{Found, Line};

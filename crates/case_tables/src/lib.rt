@@ -6,7 +6,6 @@ pub mod directions;
 use crate::directions::Directions;
 use case_lines::entries;
 use cases::Line;
-use gamut::Filling;
 
 // How many entries a table can have, those refused among them.
 const STORED: usize = 122400;
@@ -71,10 +70,7 @@ impl Table {
         for place in 0..count {
             let level = first.checked_add(place)?;
             let row = row_at(&mut self.entries, place)?;
-            match gamut::fill_row(level, cos, sin, row) {
-                Filling::Filled => {}
-                Filling::Refused(_) => return None,
-            }
+            gamut::fill_row(level, cos, sin, row).ok()?;
         }
         Some(())
     }

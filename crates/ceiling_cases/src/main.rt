@@ -6,17 +6,21 @@ use case_lines::answers::Answer;
 use case_tables::Table;
 use cases::Line;
 use ceiling::Outlook;
+use limits::Refusal;
 use search_rules::Job;
 
 // What came out.
-fn came_out(outlook: Outlook) -> Answer {
-    let none = Answer::new();
+fn came_out(outlook: Result<Outlook, Refusal>) -> Answer {
+    let answer = Answer::after(&outlook);
     match outlook {
-        Outlook::Ahead(best, ceiling) => case_jobs::shown_best(none.with(0), best)
-            .with(1)
-            .with_float(ceiling),
-        Outlook::Through(best) => case_jobs::shown_best(none.with(0), best).with(0),
-        Outlook::Refused(why) => none.with_byte(why.number()),
+        Ok(Outlook { best, ceiling }) => {
+            let answer = case_jobs::shown_best(answer, best);
+            match ceiling {
+                Some(ceiling) => answer.with(1).with_float(ceiling),
+                None => answer.with(0),
+            }
+        }
+        Err(_) => answer,
     }
 }
 

@@ -1,8 +1,8 @@
 // Words as colours, and what comes out as words.
 use case_lines::answers::Answer;
 use color::Lab;
+use limits::Refusal;
 use patterns::float_of;
-use roots::Root;
 use srgb::{Linear, Srgb8};
 
 // Three words as a colour by its floats.
@@ -58,12 +58,9 @@ pub fn codes(c: Srgb8) -> Answer {
     Answer::new().with_byte(c.r).with_byte(c.g).with_byte(c.b)
 }
 
-// A root, or the number of its refusal and 0.
-pub fn root(root: Root) -> Answer {
-    match root {
-        Root::Is(r) => Answer::new().with(0).with_float(r),
-        Root::Refused(why) => Answer::new().with_byte(why.number()).with(0),
-    }
+// 0 and a float, or the number of its refusal and 0.
+pub fn float_or_refusal(x: Result<f32, Refusal>) -> Answer {
+    Answer::after(&x).with_float(x.unwrap_or(0.0))
 }
 
 // A clipped colour with its chroma.

@@ -1,6 +1,6 @@
 // The cases that a list may have and that turn on the line's words alone, each with its words and what comes out.
 use crate::conversions::{
-    clipped, codes, codes_of, float, lab, lab_of, linear, linear_of, root, xyz, xyz_of,
+    clipped, codes, codes_of, float, float_or_refusal, lab, lab_of, linear, linear_of, xyz, xyz_of,
 };
 use case_lines::answers::Answer;
 use patterns::float_of;
@@ -8,11 +8,11 @@ use patterns::float_of;
 // What comes out of a case.
 pub fn came_out(operation: &[u8], words: &[u32]) -> Option<Answer> {
     let answer = match (operation, words) {
-        // sqrt x = number r: the square root, or the number of its refusal and 0
-        (b"sqrt", [x]) => root(roots::sqrt(float_of(*x))),
+        // sqrt x = number r: the square float_or_refusal, or the number of its refusal and 0
+        (b"sqrt", [x]) => float_or_refusal(roots::sqrt(float_of(*x))),
 
-        // cbrt x = number r: the cube root, likewise
-        (b"cbrt", [x]) => root(roots::cbrt(float_of(*x))),
+        // cbrt x = number r: the cube float_or_refusal, likewise
+        (b"cbrt", [x]) => float_or_refusal(roots::cbrt(float_of(*x))),
 
         // labf t = r: `lab_f`
         (b"labf", [t]) => float(color::lab_f(float_of(*t))),

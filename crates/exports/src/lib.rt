@@ -20,8 +20,6 @@ ghost use Rattle.orientation_rules.specs.Orientation.{orientation_says};
 ghost use Rattle.level_set_rules.specs.Set.{set_says};
 ghost use Rattle.exports.specs.Numbers.{settings_of, handed, search_hands, search_gap, orientation_hands, best_of, job_of, ceiling_number, ceiling_after, paged, page_hands, design_of, backed, back_off_hands};
 
-use ceiling::Outlook;
-use page::Laid;
 use palette::{BackOff, Design};
 use search::{Best, Job, Settings};
 use srgb::Srgb8;
@@ -114,28 +112,25 @@ pub extern "C" fn tengcuvo_search(
     ensures untouched { Untouched (search_says (settings_of k gap) table.now (length work.old)) work.old work.new }
 {
     let settings = Settings { k, gap };
-    let outcome = search::search(settings, table, work, search::begin(settings, 0));
-    let answer = outcome.answer;
-    let job = outcome.job;
-    let best = job.best;
-    let given = job.hues;
-    match answer {
-        search::Answer::Refused(why) => why.number() as u32,
-        search::Answer::Accepted => {
+    let mut job = search::begin(settings, 0);
+    match search::search(settings, table, work, &mut job) {
+        Ok(()) => {
             *tightest = [job.tightest];
-            match best {
+            match job.best {
                 Best::None => {
-                    *hues = [0u16; 16];
+                    *hues = [0; 16];
                     NO_CHROMA
                 }
                 Best::Found(reached, dark, light) => {
-                    *hues = given;
+                    let placed = job.hues;
+                    *hues = placed;
                     *levels = [dark, light];
                     *chroma = [reached];
                     0
                 }
             }
         }
+        Err(why) => u32::from(why.number()),
     }
 }
 
@@ -155,21 +150,19 @@ pub extern "C" fn tengcuvo_orientation(
     ensures { handed result hues.new levels.new chroma.new ≡
         orientation_hands hue (orientation_says gap table.now hue) hues.old levels.old chroma.old }
 {
-    let oriented = orientation::best_at_orientation(gap, table, hue);
-    let answer = oriented.answer;
-    let given = oriented.hues;
-    match answer {
-        orientation::Answer::Refused(why) => why.number() as u32,
-        orientation::Answer::Nothing => {
-            *hues = given;
-            NO_CHROMA
-        }
-        orientation::Answer::Found(reached, dark, light) => {
-            *hues = given;
-            *levels = [dark, light];
-            *chroma = [reached];
+    match orientation::best_at_orientation(gap, table, hue) {
+        Ok(Some(best)) => {
+            let placed = best.hues;
+            *hues = placed;
+            *levels = [best.dark, best.light];
+            *chroma = [best.chroma];
             0
         }
+        Ok(None) => {
+            *hues = [0; 16];
+            NO_CHROMA
+        }
+        Err(why) => u32::from(why.number()),
     }
 }
 
@@ -202,9 +195,10 @@ fn best_of(found: bool, chroma: f32, dark: usize, light: usize) -> Best
     ensures { result ≡ best_of found chroma dark light }
 {
     if found {
-        return Best::Found(chroma, dark, light);
+        Best::Found(chroma, dark, light)
+    } else {
+        Best::None
     }
-    Best::None
 }
 
 // The page of a job for the service book, of which the arguments up to the smallest gap are the record: whether there is a best so far
@@ -212,6 +206,7 @@ fn best_of(found: bool, chroma: f32, dark: usize, light: usize) -> Best
 // are zeros where there is none. Gives 0 with the page from the first byte on and how many bytes it has, the rest of the buffer as before, or the number of a refusal, with both as
 // before. 861 bytes are enough for every page.
 #[unsafe(no_mangle)]
+#[tactic(auto, unfolding(page::specs::Page::page_after))]
 pub extern "C" fn tengcuvo_page(
     found: bool,
     k: usize,
@@ -239,13 +234,12 @@ pub extern "C" fn tengcuvo_page(
         hues: indices,
         tightest,
     };
-    let laid = page::lay_out(job, page);
-    match laid {
-        Laid::Refused(why) => why.number() as u32,
-        Laid::Bytes(count) => {
+    match page::lay_out(job, page) {
+        Ok(count) => {
             *written = [count];
             0
         }
+        Err(why) => u32::from(why.number()),
     }
 }
 
@@ -281,14 +275,15 @@ pub extern "C" fn tengcuvo_ceiling(
         hues: indices,
         tightest,
     };
-    let outlook = ceiling::look_ahead(job, table);
-    match outlook {
-        Outlook::Refused(why) => why.number() as u32,
-        Outlook::Through(_) => NO_PAIR,
-        Outlook::Ahead(_, most) => {
-            *ceiling = [most];
-            0
-        }
+    match ceiling::look_ahead(job, table) {
+        Ok(outlook) => match outlook.ceiling {
+            Some(most) => {
+                *ceiling = [most];
+                0
+            }
+            None => NO_PAIR,
+        },
+        Err(why) => u32::from(why.number()),
     }
 }
 
@@ -296,14 +291,7 @@ pub extern "C" fn tengcuvo_ceiling(
 fn hexes_of(colors: [Srgb8; 32]) -> [u32; 32]
     ensures { result ≡ map to_hex colors }
 {
-    let mut hexes = [0u32; 32];
-    let mut i: usize = 0;
-    while i < 32 {
-        let color = colors[i];
-        hexes[i] = color.to_hex();
-        i += 1;
-    }
-    hexes
+    colors.map(|color| color.to_hex())
 }
 
 // The back-off of this one design from a chroma, its colours clipped to the gamut of sRGB and measured there, whatever table was
@@ -332,23 +320,20 @@ pub extern "C" fn tengcuvo_back_off(
         light,
         hues: indices,
     };
-    let ended = palette::back_off(design, chroma, cos, sin);
-    let answer = ended.answer;
-    let given = ended.colors;
-    match answer {
-        BackOff::Refused(why) => why.number() as u32,
-        BackOff::Passed(c) => {
-            *colors = hexes_of(given);
-            *passed = [c];
+    match palette::back_off(design, chroma, cos, sin) {
+        Ok(BackOff::Passed { chroma: reached, colors: shown }) => {
+            *colors = hexes_of(shown);
+            *passed = [reached];
             0
         }
-        BackOff::Found(finding) => {
-            *colors = hexes_of(given);
-            NONE_PASSES + finding.number() as u32
+        Ok(BackOff::Found(finding)) => {
+            *colors = [0; 32];
+            NONE_PASSES + u32::from(finding.number())
         }
-        BackOff::Untried => {
-            *colors = hexes_of(given);
+        Ok(BackOff::Untried) => {
+            *colors = [0; 32];
             NONE_PASSES
         }
+        Err(why) => u32::from(why.number()),
     }
 }

@@ -2,7 +2,7 @@
 -- are, that they are taken where the table's are, and that they are f32 where the table's are. Assumes nothing.
 use mathlib.Core.Path.{◌≡◌, ap, ◌∙◌}
 use mathlib.Core.Bool.{true, ◌&&◌}
-use mathlib.Core.List.{List, [], ◌∷◌}
+use mathlib.Core.List.{List}
 use Prim.Native.Nat.{ℕ, suc, ◌+◌, ◌-◌, ◌*◌, ◌/◌, ◌≤◌, ◌<◌}
 use native.Mathlib.Nat.{mul-le-mul_right, suc-mul, mul-div_cancel, min-eq_left}
 use native.Mathlib.Omega.{arith}
@@ -13,7 +13,6 @@ use lib.Seq.{get_or-take, get_or-drop}
 use borrow.Author.Tests.{leb-true, eqb-true, le-leb, eq-eqb}
 use Rattle.limits.specs.Taken.{entry_taken, every}
 use Rattle.limits.specs.Each.{Each, F32}
-use Rattle.limits.proofs.Checks.{Check, check}
 use Rattle.limits.proofs.HueCount.{both}
 use Rattle.limits.proofs.Lists.{each_take, each_drop, every_take, every_drop}
 use Rattle.gamut.specs.Table.{levels_in, row_at, table_taken}
@@ -71,7 +70,3 @@ row_taken table i h = every_take entry_taken 720 (drop (i * 720) table) (every_d
 pub row_f32 : (table : List Float) (i : ℕ) → Each F32 table → Each F32 (row_at table i)
 unfolding row_at
 row_f32 table i h = each_take F32 720 (drop (i * 720) table) (each_drop F32 (i * 720) table h)
-
--- ---- the checks of a table that is read whole, as a list
-abbrev pub table_checks : List Float → List Check
-table_checks table = check (table_taken table) 6 ∷ check (every entry_taken table) 7 ∷ []

@@ -2,20 +2,11 @@
 use crate::digest;
 use case_lines::answers::Answer;
 use case_tables::directions::Lent;
-use gamut::Filling;
 
 // Sets every entry to the float that stands for its place.
 fn mark(row: &mut [f32]) {
     for (entry, bits) in row.iter_mut().zip(0x3f80_0000..) {
         *entry = patterns::float_of(bits);
-    }
-}
-
-// The number of a refusal, or 0.
-fn number_of(filling: Filling) -> u8 {
-    match filling {
-        Filling::Filled => 0,
-        Filling::Refused(why) => why.number(),
     }
 }
 
@@ -25,8 +16,5 @@ pub fn row(level: usize, lent: Lent) -> Option<Answer> {
     let row = row.get_mut(..lent.entries)?;
     mark(row);
     let filling = gamut::fill_row(level, lent.cos(), lent.sin(), row);
-    let answer = Answer::new()
-        .with_byte(number_of(filling))
-        .with_digest(digest::of(row));
-    Some(answer)
+    Some(Answer::after(&filling).with_digest(digest::of(row)))
 }

@@ -1,6 +1,5 @@
 // The page of a job for the service book.
 use crate::words::Refused;
-use page::Laid;
 use search::Job;
 
 // How many bytes the longest page has, that of sixteen hues.
@@ -10,10 +9,10 @@ const LONGEST: usize = 861;
 pub fn write(rt: &impl Print, job: Job) {
     let mut bytes = [0; LONGEST];
     match page::lay_out(job, &mut bytes) {
-        Laid::Refused(why) => {
+        Err(why) => {
             let _ = println!(rt; "{}", Refused(why));
         }
-        Laid::Bytes(count) => {
+        Ok(count) => {
             if let Some(page) = bytes.get(..count) {
                 let _ = println!(rt; "for the service book");
                 let _ = rt.write_all(page);

@@ -42,13 +42,9 @@ impl Said {
         if self.settings.is_some() {
             return Err(Fault::AskedTwice);
         }
-        match lamp_input::read_ask(text) {
-            Ask::Malformed => Err(Fault::NoAsk),
-            Ask::Asks(k, gap) => {
-                self.settings = Some(Settings { k, gap });
-                Ok(())
-            }
-        }
+        let Ask { k, gap } = lamp_input::read_ask(text).ok_or(Fault::NoAsk)?;
+        self.settings = Some(Settings { k, gap });
+        Ok(())
     }
 
     // Takes a direction, if it is one and was not given before.

@@ -1,7 +1,7 @@
 // The search, step by step, with lines of progress.
 use crate::numbers::exact;
 use limits::Refusal;
-use search::{Answer, Best, Job, Outcome, Settings};
+use search::{Best, Job, Settings};
 
 // How many pairs of levels there are.
 const PAIRS: usize = 28561;
@@ -21,20 +21,13 @@ fn progress(rt: &impl Print, job: &Job) {
     };
 }
 
-// The job that an outcome holds, or why there is none.
-fn accepted(outcome: Outcome) -> Result<Job, Refusal> {
-    match outcome.answer {
-        Answer::Accepted => Ok(outcome.job),
-        Answer::Refused(why) => Err(why),
-    }
-}
-
 // Searches a table.
 pub fn search_in(rt: &impl Print, table: &[f32], settings: Settings) -> Result<Job, Refusal> {
-    let mut job = accepted(search::start(settings, table, search::begin(settings, 0)))?;
+    let mut job = search::begin(settings, 0);
+    search::start(settings, table, &mut job)?;
     for _ in 0..PAIRS {
         let mut work = [0; 720];
-        job = accepted(search::step(table, &mut work, job))?;
+        search::step(table, &mut work, &mut job)?;
         progress(rt, &job);
     }
     Ok(job)

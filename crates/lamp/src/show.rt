@@ -1,9 +1,7 @@
 // The lines that say what is asked, what the search found and its limit.
 use crate::numbers::{Decimal, Halves, exact};
 use crate::words::Refused;
-use audit::Bound;
 use palette::Design;
-use placement_checks::Stepping;
 use search::Settings;
 use std::fmt;
 
@@ -33,11 +31,11 @@ impl fmt::Display for Hues {
             return write!(f, "single hue");
         }
         match placement_checks::step_for(k) {
-            Stepping::Is(step) => {
+            Ok(step) => {
                 let step = Halves(step as u64);
                 write!(f, "{k} hues at least {step} degrees apart")
             }
-            Stepping::Refused(why) => write!(f, "{}", Refused(why)),
+            Err(why) => write!(f, "{}", Refused(why)),
         }
     }
 }
@@ -64,8 +62,8 @@ impl fmt::Display for Those {
 // `stepped_is_limit`).
 pub fn limit(rt: &impl Print, settings: Settings, chroma: f32) {
     let _ = match audit::bound_of(chroma) {
-        Bound::Next(most) => println!(rt; "limit: {} above {}", Those(settings), exact(most)),
-        Bound::Refused(why) => println!(rt; "{}", Refused(why)),
+        Ok(most) => println!(rt; "limit: {} above {}", Those(settings), exact(most)),
+        Err(why) => println!(rt; "{}", Refused(why)),
     };
 }
 

@@ -1,5 +1,5 @@
 // The table of what the panel can show, filled a level at a time.
-use gamut::{Filling, Gamut};
+use gamut::Gamut;
 use limits::Refusal;
 
 // How many entries it has.
@@ -8,10 +8,7 @@ pub const ENTRIES: usize = 121680;
 // Fills the row of every level, up to the first refusal.
 pub fn fill(table: &mut [f32; ENTRIES], cos: &[f32], sin: &[f32]) -> Result<(), Refusal> {
     for (level, row) in table.chunks_exact_mut(Gamut::HUES).enumerate() {
-        match gamut::fill_row(level, cos, sin, row) {
-            Filling::Filled => {}
-            Filling::Refused(why) => return Err(why),
-        }
+        gamut::fill_row(level, cos, sin, row)?;
     }
     Ok(())
 }

@@ -5,27 +5,21 @@
 use case_lines::answers::Answer;
 use case_tables::Table;
 use cases::Line;
+use limits::Refusal;
 use orientation::Oriented;
 
 // What came out.
-fn came_out(oriented: Oriented) -> Answer {
-    let none = Answer::new();
-    let answer = match oriented.answer {
-        orientation::Answer::Found(chroma, dark, light) => none
-            .with(0)
+fn came_out(oriented: Result<Option<Oriented>, Refusal>) -> Answer {
+    let answer = Answer::after(&oriented);
+    match oriented {
+        Ok(Some(best)) => answer
             .with(1)
-            .with_float(chroma)
-            .with_size(dark)
-            .with_size(light),
-        orientation::Answer::Nothing => none.with(0).with(0).with(0).with(0).with(0),
-        orientation::Answer::Refused(why) => none
-            .with_byte(why.number())
-            .with(0)
-            .with(0)
-            .with(0)
-            .with(0),
-    };
-    answer.with_hues(oriented.hues)
+            .with_float(best.chroma)
+            .with_size(best.dark)
+            .with_size(best.light)
+            .with_hues(best.hues),
+        Ok(None) | Err(_) => answer.with_zeros(20),
+    }
 }
 
 // Takes a line, which is answered if it is a case.

@@ -2,7 +2,6 @@
 use case_lines::answers::Answer;
 use case_lines::{answers, digest};
 use cases::Line;
-use page::Laid;
 use search_rules::Job;
 
 // How long a buffer can be.
@@ -22,12 +21,9 @@ pub fn answer(rt: &impl Print, line: &Line, size: usize, seed: u32, job: Job) ->
     let mut buffer = [0; ROOM];
     let page = buffer.get_mut(..size)?;
     fill(page, seed);
-    let (number, count) = match page::lay_out(job, page) {
-        Laid::Bytes(count) => (0, count),
-        Laid::Refused(why) => (why.number(), 0),
-    };
-    Answer::new()
-        .with_byte(number)
+    let laid = page::lay_out(job, page);
+    let count = laid.unwrap_or(0);
+    Answer::after(&laid)
         .with_size(count)
         .with_digest(digest::with_bytes(digest::START, page))
         .write(rt, line);

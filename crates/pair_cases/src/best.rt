@@ -1,27 +1,21 @@
 // The best of a pair.
 use case_lines::answers::Answer;
 use case_lines::work_buffer;
+use limits::Refusal;
 use pair::Chosen;
 
 // What came out of a pair; the work buffer is as it was left.
-fn came_out(chosen: Chosen, work: &[u16]) -> Answer {
-    let none = Answer::new();
-    let hues = chosen.hues;
-    let gap = chosen.tightest;
-    match chosen.answer {
-        pair::Answer::Found(chroma) => none
-            .with(0)
+fn came_out(chosen: Result<Option<Chosen>, Refusal>, work: &[u16]) -> Answer {
+    let answer = Answer::after(&chosen);
+    match chosen {
+        Ok(Some(best)) => answer
             .with(1)
-            .with_float(chroma)
-            .with_size(gap)
-            .with_hues(hues),
-        pair::Answer::Nothing => none.with(0).with(0).with(0).with_size(gap).with_hues(hues),
-        pair::Answer::Refused(why) => none
-            .with_byte(why.number())
-            .with(0)
-            .with(0)
-            .with_size(gap)
-            .with_hues(hues)
+            .with_float(best.chroma)
+            .with_size(best.tightest)
+            .with_hues(best.hues),
+        Ok(None) => answer.with_zeros(19),
+        Err(_) => answer
+            .with_zeros(19)
             .with_digest(work_buffer::digest_of(work)),
     }
 }

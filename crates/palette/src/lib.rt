@@ -221,6 +221,7 @@ fn lower_from(design: Design, chroma: f32, cos: &[f32], sin: &[f32]) -> BackOff
 {
     let mut c = chroma;
     let mut last = BackOff::Untried;
+    // no count says how often: the chroma is lowered as long as it is tried
     while tried(c) {
         let colors = colors_of(design, c, cos, sin);
         match first_finding(design.k, measure(design.k, colors, cos, sin)) {

@@ -1,37 +1,26 @@
 // Steps and placements.
 use case_lines::answers::Answer;
 use case_lines::work_buffer;
+use limits::Refusal;
 use placement::Placement;
-use placement_checks::Stepping;
 
 // What comes out of the step for a hue count.
 pub fn step(k: usize) -> Answer {
-    match placement_checks::step_for(k) {
-        Stepping::Is(step) => Answer::new().with(0).with_size(step),
-        Stepping::Refused(why) => Answer::new().with_byte(why.number()).with(0),
-    }
+    let step = placement_checks::step_for(k);
+    Answer::after(&step).with_size(step.unwrap_or(0))
 }
 
 // What came out of a placement; the work buffer is as it was left.
-fn came_out(found: Placement, work: &[u16]) -> Answer {
-    let none = Answer::new();
-    let hues = found.hues;
-    match found.answer {
-        placement::Answer::Placed => none
-            .with(0)
+fn came_out(found: Result<Option<Placement>, Refusal>, work: &[u16]) -> Answer {
+    let answer = Answer::after(&found);
+    match found {
+        Ok(Some(placed)) => answer
             .with(1)
-            .with_size(found.tightest)
-            .with_hues(hues),
-        placement::Answer::Nowhere => none
-            .with(0)
-            .with(0)
-            .with_size(found.tightest)
-            .with_hues(hues),
-        placement::Answer::Refused(why) => none
-            .with_byte(why.number())
-            .with(0)
-            .with_size(found.tightest)
-            .with_hues(hues)
+            .with_size(placed.tightest)
+            .with_hues(placed.hues),
+        Ok(None) => answer.with_zeros(18),
+        Err(_) => answer
+            .with_zeros(18)
             .with_digest(work_buffer::digest_of(work)),
     }
 }

@@ -4,22 +4,22 @@
 // tightest gap follow, two bytes each, the low one first.
 use case_lines::answers::Answer;
 use case_lines::{digest, work_buffer};
+use limits::Refusal;
 use placement::Placement;
 
-// The byte of an answer.
-fn byte_of(answer: placement::Answer) -> u8 {
-    match answer {
-        placement::Answer::Placed => 255,
-        placement::Answer::Nowhere => 0,
-        placement::Answer::Refused(why) => why.number(),
-    }
+// A digest with hues and their tightest gap, which counts as the greatest pair of bytes where it is greater.
+fn with_hues(sum: u64, hues: &[u16], tightest: usize) -> u64 {
+    let tightest = u16::try_from(tightest).unwrap_or(u16::MAX);
+    digest::with_pair(digest::with_pairs(sum, hues), tightest)
 }
 
-// A digest with a placement; its tightest gap counts as the greatest pair of bytes where it is greater.
-fn with_place(sum: u64, found: Placement) -> u64 {
-    let tightest = u16::try_from(found.tightest).unwrap_or(u16::MAX);
-    let first = digest::with_byte(sum, byte_of(found.answer));
-    digest::with_pair(digest::with_pairs(first, &found.hues), tightest)
+// A digest with a placement.
+fn with_place(sum: u64, found: Result<Option<Placement>, Refusal>) -> u64 {
+    match found {
+        Ok(Some(placed)) => with_hues(digest::with_byte(sum, 255), &placed.hues, placed.tightest),
+        Ok(None) => with_hues(digest::with_byte(sum, 0), &[0; 16], 0),
+        Err(why) => with_hues(digest::with_byte(sum, why.number()), &[0; 16], 0),
+    }
 }
 
 // The digest of every placement; the seed is that of what the first work buffer holds.

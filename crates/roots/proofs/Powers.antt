@@ -48,9 +48,6 @@ third n (inl e) h = absurd (h e)
 third n (inr e) h = e
 
 -- ---- from an even number to the next
-pub square_gain : (a : ℕ) → (2 * a) ^ 2 + (4 * a + 1) ≡ (2 * a + 1) ^ 2
-square_gain a = let e = square_next (2 * a) in omega arith
-
 pub cube_gain : (a : ℕ) → (2 * a) ^ 3 + ((12 * a + 6) * a + 1) ≡ (2 * a + 1) ^ 3
 cube_gain a =
     let e : (2 * a + 1) ^ 3 ≡ (2 * a) ^ 3 + (3 * (2 * a * (2 * a)) + 3 * (2 * a) + 1) = cube_next (2 * a) in

@@ -4,88 +4,41 @@
 
 mod calls;
 
-use case_lines::{Reader, answers};
-use case_tables::Tables;
+use case_jobs::settings_of;
+use case_tables::Table;
 use cases::Line;
 use search::Job;
-use std::io::Read;
 
-// What the lines so far have set, but for the table's entries.
-#[derive(Clone, Copy)]
-struct State {
-    tables: Tables,
-    // the job that the next call is lent
-    job: Job,
-}
+// Takes a line, which is answered if it is a case.
+fn take_line(rt: &impl Print, line: &Line, table: &mut Table, job: &mut Job) -> Option<()> {
+    let answer = match (line.operation(), line.words()) {
+        // start k gap = number k gap levels position tightest found chroma dark light h ..: `start`, with the number of its refusal or 0
+        // and the job after it: 1 and the best, or 0 alone, and sixteen hues
+        (b"start", [k, gap]) => calls::start(settings_of(*k, *gap), table.entries(), job),
 
-// Whether a line of an operation may have so many words.
-fn takes(operation: u64, count: usize) -> bool {
-    match operation {
-        case_jobs::JOB => 5 <= count && count <= 21,
-        case_jobs::BEST => count == 4,
-        calls::START | calls::STEPS => count == 2,
-        calls::STEP => count == 1,
-        calls::SEARCH => count == 3,
-        _ => false,
-    }
-}
+        // step room = number k gap .. hi lo: `step` with a work buffer of this length, with the same, and after a refusal the digest of
+        // the work buffer
+        (b"step", [room]) => calls::step(line.number, *room, table.entries(), job)?,
 
-// The job after a line, which is answered if it is a call; the table is the first entries.
-fn take_line(rt: &impl Print, line: Line, entries: &[f32], length: usize, job: Job) -> Job {
-    let operation = line.operation;
-    let words = line.words;
-    if !takes(operation, line.count) || entries.len() < length {
-        answers::malformed(rt);
-        return job;
-    }
-    match operation {
-        case_jobs::JOB => case_jobs::job_of(words, line.count),
-        case_jobs::BEST => case_jobs::with_best(job, words),
-        _ => calls::answer(rt, line, &entries[0..length], job),
-    }
-}
+        // steps n room = hi lo hi lo: n steps: the digest of their numbers and the jobs after them, and that of the work buffers after
+        // those that were refused
+        (b"steps", [n, room]) => calls::steps(line.number, *n, *room, table.entries(), job)?,
 
-impl State {
-    // No line has come yet.
-    fn new() -> State {
-        State {
-            tables: Tables::new(),
-            job: case_jobs::blank(),
+        // search k gap room = number k gap .. hi lo: `search`, with the same as a step
+        (b"search", [k, gap, room]) => {
+            let settings = settings_of(*k, *gap);
+            calls::search(line.number, settings, *room, table.entries(), job)?
         }
-    }
-
-    // With a line taken, which is answered if it is a call.
-    fn with_line(mut self, rt: &impl Print, line: Line, entries: &mut [f32; 122400]) -> State {
-        let tables = self.tables;
-        let job = self.job;
-        if case_tables::sets(line.operation) {
-            let next = tables.set(rt, line, entries);
-            self.tables = next;
-            return self;
-        }
-        let next = take_line(rt, line, entries, tables.length, job);
-        self.job = next;
-        self
-    }
-}
-
-// Reads the list to its end. A proved loop ends, so it counts turns down.
-fn take_all(rt: &impl Print, input: &mut impl Read, entries: &mut [f32; 122400]) {
-    let mut reader = Reader::new();
-    let mut state = State::new();
-    let mut turns = case_lines::TURNS;
-    while turns > 0 && reader.more {
-        reader = reader.read_on(rt, input);
-        if reader.case {
-            state = state.with_line(rt, reader.line, entries);
-        }
-        turns -= 1;
-    }
+        (b"job" | b"best", _) => return case_jobs::take_line(line, job),
+        _ => return table.take_line(line),
+    };
+    answer.write(rt, line);
+    Some(())
 }
 
 // Answers the list.
 fn main(rt: HostRuntime) {
-    let mut input = rt.reader();
-    let mut entries = [0.0f32; 122400];
-    take_all(&rt, &mut input, &mut entries);
+    let mut table = Table::new();
+    let mut job = case_jobs::blank();
+    case_lines::each_case(&rt, |line| take_line(&rt, line, &mut table, &mut job));
 }

@@ -4,6 +4,7 @@ use mathlib.Core.Path.{◌≡◌, refl, sym, ap, ◌∙◌}
 use mathlib.Core.Bool.{true, false}
 use mathlib.Core.List.{List, [], ◌∷◌}
 use Prim.Native.Nat.{ℕ, ◌+◌, ◌%◌}
+use native.Mathlib.Omega.{arith}
 use lib.Ieee.{Float}
 use Rattle.gamut.specs.Table.{row_at}
 use Rattle.pair_rules.specs.Rows.{lesser, value_at}
@@ -57,15 +58,17 @@ loop-on-preserved c =
     let t = a.table.now in
     let on = c.loop-on.on in
     let so = best_of c.loop-on.best in
+    let inside = c.loop-on-test.true in
     let chroma = c.lesser-chroma.result in
     let is = shared t a.hue a.dark a.light on c.value_at-own.result c.value_at.result chroma c.value_at-own.ensures c.value_at.ensures c.lesser-chroma.ensures in
     let next : best_of c.if-replaces.best ≡ turn t a.hue a.dark a.light on so = elim c.if-replaces.branch [
       | then-replaces w ↦ ap best_of w.best-is ∙ better t a.hue a.dark a.light on so chroma is (sym c.replaces-in-loop-on.ensures ∙ w.if-replaces.true)
       | else-replaces w ↦ ap best_of w.best-is ∙ worse t a.hue a.dark a.light on so chroma is (sym c.replaces-in-loop-on.ensures ∙ w.if-replaces.false)
     ] in
-    one_taken (turn t a.hue a.dark a.light) 420 on so (best_of c.if-replaces.best) (over_partners t a.hue a.dark a.light (best_of a.best)) c.loop-on-test.true next c.loop-on.invariant
+    one_taken (turn t a.hue a.dark a.light) 420 on so (best_of c.if-replaces.best) (over_partners t a.hue a.dark a.light (best_of a.best)) (omega arith) next c.loop-on.invariant
 
 pub returns : goal.returns
 returns c =
     let a = c.args in
-    all_taken (turn a.table.now a.hue a.dark a.light) 420 c.loop-on.on (best_of c.loop-on.best) (over_partners a.table.now a.hue a.dark a.light (best_of a.best)) c.loop-on-test.false c.loop-on.invariant
+    let end = c.loop-on-test.false in
+    all_taken (turn a.table.now a.hue a.dark a.light) 420 c.loop-on.on (best_of c.loop-on.best) (over_partners a.table.now a.hue a.dark a.light (best_of a.best)) (omega arith) c.loop-on.invariant

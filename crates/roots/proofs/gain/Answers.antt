@@ -1,4 +1,4 @@
--- `roots::gain` meets its contract: the two degrees by the laws of `proofs/Powers.antt`. Assumes nothing.
+-- `roots::gain` meets its contract at degree 3, by the laws of `proofs/Powers.antt`. Assumes nothing.
 use Prim.Native.Nat.{◌+◌, ◌*◌, ◌<◌}
 use Rattle.roots.proofs.Powers.{third, cube_gain, cube_gain_small}
 use Rattle.roots.proofs.gain.Goals as goal
