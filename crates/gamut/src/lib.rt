@@ -3,13 +3,13 @@
 // Its cases are in `gamut_cases`.
 #![tactic(auto)]
 
-ghost use Rattle.std.specs.Prelude.{◌≡◌, ◌≤◌, length};
+ghost use Rattle.std.specs.Prelude.{◌≡◌, length};
 ghost use Rattle.limits.specs.Answers.{value};
 ghost use Rattle.limits.specs.Refusals.{said};
 ghost use Rattle.gamut.specs.Gamut.{level_of, max_chroma, fill_says, row_after, row_of};
 ghost use Rattle.gamut.specs.Table.{table_taken, table_checked};
 
-use limits::Refusal;
+use limits::{Directions, Refusal};
 
 // The shape of a table: rows of 720 entries, one for each level, lent as one slice. The calls take the slice itself; the type is where
 // the table constants stand.
@@ -90,12 +90,13 @@ pub fn max_chroma(l: f32, cos: f32, sin: f32) -> f32
 }
 
 // Writes the entries of the row at lightness l.
-fn fill(l: f32, cos: &[f32], sin: &[f32], row: &mut [f32])
-    requires { (length cos.now ≡ 720) × ((length sin.now ≡ 720) × (length row.old ≡ 720)) }
-    ensures { row.new ≡ row_of l cos.now sin.now }
+#[tactic(auto, using(limits::proofs::Long::directions_long))]
+fn fill(l: f32, directions: &Directions<'_>, row: &mut [f32])
+    requires { length row.old ≡ 720 }
+    ensures { row.new ≡ row_of l directions.now.cos.now directions.now.sin.now }
 {
     for (j, entry) in row.iter_mut().enumerate() {
-        *entry = max_chroma(l, cos[j], sin[j]);
+        *entry = max_chroma(l, directions.cos[j], directions.sin[j]);
     }
 }
 
@@ -105,15 +106,13 @@ pub fn fill_row(level: usize, cos: &[f32], sin: &[f32], row: &mut [f32]) -> Resu
     ensures { (said result ≡ fill_says level cos.now sin.now row.old)
         × (row.new ≡ row_after level cos.now sin.now row.old) }
 {
-    if !limits::takes_directions(cos, sin) {
-        return Err(Refusal::Directions);
-    }
+    let directions = Directions::new(cos, sin)?;
     if row.len() != Gamut::HUES {
         return Err(Refusal::RowLength);
     }
     if level >= Gamut::LEVELS {
         return Err(Refusal::LevelIndex);
     }
-    fill(Gamut::l_of(level as u16), cos, sin, row);
+    fill(Gamut::l_of(level as u16), &directions, row);
     Ok(())
 }

@@ -1,6 +1,6 @@
 pub mod Numbers
 pub mod Firsts
-pub mod Directions
+pub mod Long
 pub mod Every
 pub mod Floats
 pub mod HueCount

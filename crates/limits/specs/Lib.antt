@@ -2,3 +2,4 @@ pub mod Refusals
 pub mod Taken
 pub mod Answers
 pub mod Each
+pub mod Lent

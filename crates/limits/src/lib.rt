@@ -3,7 +3,7 @@
 // Its cases are those of the crates that call it.
 #![tactic(auto)]
 
-ghost use Rattle.std.specs.Prelude.{◌≡◌, not};
+ghost use Rattle.std.specs.Prelude.{◌≡◌, true, not};
 ghost use Rattle.limits.specs.Refusals.{number};
 ghost use Rattle.limits.specs.Taken.{outside, sign_clear, up_to, hue_count_taken, gap_taken, chroma_taken, entry_taken, direction_taken, root_operand_taken, hue_operand_taken, every, directions_taken};
 
@@ -161,4 +161,26 @@ pub fn takes_directions(cos: &[f32], sin: &[f32]) -> bool
     ensures { result ≡ directions_taken cos.now sin.now }
 {
     cos.len() == 720 && sin.len() == 720 && takes_components(cos) && takes_components(sin)
+}
+
+// The 720 directions that are lent, as cosines and sines that are taken.
+#[derive(Clone, Copy)]
+pub struct Directions<'a> {
+    pub cos: &'a [f32],
+    pub sin: &'a [f32],
+    ghost taken: { directions_taken cos.now sin.now ≡ true },
+}
+
+impl<'a> Directions<'a> {
+    ghost use Rattle.limits.specs.Lent.{directions_says, directions_said};
+
+    // Two slices as the directions, refused by 9 where they are not taken.
+    pub fn new(cos: &'a [f32], sin: &'a [f32]) -> Result<Directions<'a>, Refusal>
+        ensures { directions_said result ≡ directions_says cos.now sin.now }
+    {
+        if !takes_directions(cos, sin) {
+            return Err(Refusal::Directions);
+        }
+        Ok(Directions { cos, sin })
+    }
 }

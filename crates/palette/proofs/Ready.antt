@@ -1,19 +1,15 @@
 -- What a design that is ready has: few hues, levels of the table, and hues among the directions. Assumes nothing.
-use mathlib.Core.Path.{◌≡◌}
-use mathlib.Core.List.{List}
 use Prim.Native.Nat.{ℕ, ◌≤◌, ◌<◌}
 use lib.Dec.{leb}
-use lib.Ieee.{Float}
-use lib.ListN.{length, get_or}
+use lib.ListN.{get_or}
 use borrow.Author.Tests.{leb-true}
-use Rattle.limits.proofs.Directions.{directions_long}
 use Rattle.limits.proofs.HueCount.{both, hue_count}
 use Rattle.palette_checks.specs.declared.Design.{Design}
 use Rattle.palette_checks.specs.Designs.{levels_taken}
 use Rattle.palette.specs.Inner.{Ready}
 use Rattle.palette_checks.proofs.Hues.{small}
 
-module _ {d : Design} {cs ss : List Float} (r : Ready d cs ss) where
+module _ {d : Design} (r : Ready d) where
   pub few_hues : d.k ≤ 16
   few_hues = (hue_count d.k r.hue_count).1
 
@@ -23,6 +19,3 @@ module _ {d : Design} {cs ss : List Float} (r : Ready d cs ss) where
 
   pub hue_in : (i : ℕ) → i < d.k → get_or d.hues i 0 ≤ 719
   hue_in i h = small d.k d.hues r.hues i h
-
-  pub long : (length cs ≡ 720) × (length ss ≡ 720)
-  long = directions_long cs ss r.directions

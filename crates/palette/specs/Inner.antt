@@ -1,23 +1,17 @@
 -- What the private functions of this crate ask and promise among themselves. Nothing here is a promise to a caller. Definitions only.
 use Rattle.std.specs.Prelude.{◌≡◌, true, List, ℕ, ◌+◌, ◌≤◌, ◌<◌, Float, length, get_or}
 use Rattle.std.specs.Float.{nan}
-use Rattle.limits.specs.Taken.{directions_taken, hue_count_taken}
+use Rattle.limits.specs.Taken.{hue_count_taken}
 use Rattle.srgb.specs.declared.Srgb8.{Srgb8}
 use Rattle.palette_checks.specs.declared.Design.{Design}
 use Rattle.palette_checks.specs.Designs.{levels_taken, hues_taken}
 use Rattle.palette.specs.Derivation.{black, colors_of}
 
--- a design that is taken, with directions that are taken
-pub record Ready (d : Design) (cs ss : List Float) : Type 0 where
+-- a design that is taken
+pub record Ready (d : Design) : Type 0 where
   pub hue_count : hue_count_taken d.k ≡ true
-  pub directions : directions_taken cs ss ≡ true
   pub levels : levels_taken d ≡ true
   pub hues : hues_taken d.k d.hues ≡ true
-
--- directions and a hue count that are taken
-pub record Measurable (k : ℕ) (cs ss : List Float) : Type 0 where
-  pub hue_count : hue_count_taken k ≡ true
-  pub directions : directions_taken cs ss ≡ true
 
 -- the first n numbers are what f gives of the first n colours
 abbrev pub Filled : (Srgb8 → Float) → ℕ → List Srgb8 → List Float → Type 0

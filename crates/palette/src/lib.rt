@@ -4,20 +4,20 @@
 // Its cases are in `palette_cases`.
 #![tactic(auto)]
 
-ghost use Rattle.std.specs.Prelude.{◌≡◌, true, ◌≤◌, length};
+ghost use Rattle.std.specs.Prelude.{◌≡◌, true, ◌≤◌};
 ghost use Rattle.limits.specs.Answers.{value};
 ghost use Rattle.limits.specs.Refusals.{said};
-ghost use Rattle.limits.specs.Taken.{chroma_taken, directions_taken};
+ghost use Rattle.limits.specs.Taken.{hue_count_taken, chroma_taken};
 ghost use Rattle.hue.specs.Hue.{color_hue};
 ghost use Rattle.gamut.specs.Gamut.{level_of};
 ghost use Rattle.metrics.specs.Metrics.{lightness_of, chroma_in, metrics_of};
 ghost use Rattle.palette.specs.Derivation.{shown, colors_of, derivation_says};
 ghost use Rattle.palette.specs.Validation.{findings, first_of, validation_says, verdict_said, validation_said, finding_number};
 ghost use Rattle.palette.specs.BackOff.{tried, judge_at, end_of, back_off_says, ending_of, back_off_said, colors_in, colors_said, colors_after};
-ghost use Rattle.palette.specs.Inner.{Ready, Measurable, Measured, Placed, color_at};
+ghost use Rattle.palette.specs.Inner.{Ready, Measured, Placed, color_at};
 
 use gamut::Gamut;
-use limits::Refusal;
+use limits::{Directions, Refusal};
 use metrics::Metrics;
 pub use palette_checks::Design;
 use srgb::Srgb8;
@@ -63,34 +63,35 @@ impl Finding {
 }
 
 // The colour of a level and a hue, by their indices.
-fn color_of(level: usize, hue: u16, chroma: f32, cos: &[f32], sin: &[f32]) -> Srgb8
-    requires { (level ≤ 168) × (hue ≤ 719) × (length cos.now ≡ 720) × (length sin.now ≡ 720) }
-    ensures { result ≡ shown (level_of level) chroma cos.now sin.now hue }
+#[tactic(auto, using(limits::proofs::Long::directions_long))]
+fn color_of(level: usize, hue: u16, chroma: f32, directions: &Directions<'_>) -> Srgb8
+    requires { (level ≤ 168) × (hue ≤ 719) }
+    ensures { result ≡ shown (level_of level) chroma directions.now.cos.now directions.now.sin.now hue }
 {
     let j = hue as usize;
     let l = Gamut::l_of(level as u16);
-    clipping::lch_to_srgb8_gamut_clipped(l, chroma, cos[j], sin[j]).color
+    clipping::lch_to_srgb8_gamut_clipped(l, chroma, directions.cos[j], directions.sin[j]).color
 }
 
 // The colour in place i of the 2k: the first k are dark.
-fn color_at(design: Design, chroma: f32, cos: &[f32], sin: &[f32], i: usize) -> Srgb8
-    requires { Ready design cos.now sin.now × Placed design i }
-    ensures { result ≡ color_at design chroma cos.now sin.now i }
+fn color_at(design: Design, chroma: f32, directions: &Directions<'_>, i: usize) -> Srgb8
+    requires { Ready design × Placed design i }
+    ensures { result ≡ color_at design chroma directions.now.cos.now directions.now.sin.now i }
 {
     if i < design.k {
-        return color_of(design.dark, design.hues[i], chroma, cos, sin);
+        return color_of(design.dark, design.hues[i], chroma, directions);
     }
-    color_of(design.light, design.hues[i - design.k], chroma, cos, sin)
+    color_of(design.light, design.hues[i - design.k], chroma, directions)
 }
 
 // The colours of a design at a chroma.
-fn colors_of(design: Design, chroma: f32, cos: &[f32], sin: &[f32]) -> [Srgb8; 32]
-    requires { Ready design cos.now sin.now }
-    ensures { result ≡ colors_of design chroma cos.now sin.now }
+fn colors_of(design: Design, chroma: f32, directions: &Directions<'_>) -> [Srgb8; 32]
+    requires { Ready design }
+    ensures { result ≡ colors_of design chroma directions.now.cos.now directions.now.sin.now }
 {
     let mut colors = [Srgb8 { r: 0, g: 0, b: 0 }; 32];
     for i in 0..2 * design.k {
-        colors[i] = color_at(design, chroma, cos, sin, i);
+        colors[i] = color_at(design, chroma, directions, i);
     }
     colors
 }
@@ -100,16 +101,16 @@ fn colors_of(design: Design, chroma: f32, cos: &[f32], sin: &[f32]) -> [Srgb8; 3
 pub fn derive(design: Design, chroma: f32, cos: &[f32], sin: &[f32]) -> Result<[Srgb8; 32], Refusal>
     ensures { said result ≡ derivation_says design chroma cos.now sin.now }
 {
-    palette_checks::check_design(design, chroma, cos, sin)?;
-    Ok(colors_of(design, chroma, cos, sin))
+    let directions = palette_checks::check_design(design, chroma, cos, sin)?;
+    Ok(colors_of(design, chroma, &directions))
 }
 
-// The hues of the first n colours, by directions that are taken.
-fn hues_in(n: usize, colors: [Srgb8; 32], cos: &[f32], sin: &[f32]) -> [f32; 32]
-    requires { (n ≤ 32) × (directions_taken cos.now sin.now ≡ true) }
-    ensures { Measured (color_hue cos.now sin.now) n colors result }
+// The hues of the first n colours.
+fn hues_in(n: usize, colors: [Srgb8; 32], directions: &Directions<'_>) -> [f32; 32]
+    requires { n ≤ 32 }
+    ensures { Measured (color_hue directions.now.cos.now directions.now.sin.now) n colors result }
 {
-    hue::srgb8_hues(n, colors, cos, sin).unwrap()
+    hue::srgb8_hues(n, colors, directions.cos, directions.sin).unwrap()
 }
 
 // Lightness and chroma of colours, each in the place of its colour.
@@ -135,9 +136,9 @@ fn parts_of(n: usize, colors: [Srgb8; 32]) -> Parts
 }
 
 // The four metrics of 2k colours.
-fn measure(k: usize, colors: [Srgb8; 32], cos: &[f32], sin: &[f32]) -> Metrics
-    requires { Measurable k cos.now sin.now }
-    ensures { result ≡ metrics_of k colors cos.now sin.now }
+fn measure(k: usize, colors: [Srgb8; 32], directions: &Directions<'_>) -> Metrics
+    requires { hue_count_taken k ≡ true }
+    ensures { result ≡ metrics_of k colors directions.now.cos.now directions.now.sin.now }
 {
     let Parts { l, c } = parts_of(2 * k, colors);
     let gap = metrics::gap_of(k, l);
@@ -153,7 +154,7 @@ fn measure(k: usize, colors: [Srgb8; 32], cos: &[f32], sin: &[f32]) -> Metrics
     Metrics {
         gap,
         spread,
-        separation: metrics::separation_of(k, hues_in(2 * k, colors, cos, sin)),
+        separation: metrics::separation_of(k, hues_in(2 * k, colors, directions)),
         chroma: metrics::chroma_of(k, c),
     }
 }
@@ -195,13 +196,11 @@ pub fn validate(
     if !limits::takes_hue_count(k) {
         return Err(Refusal::HueCount);
     }
-    if !limits::takes_directions(cos, sin) {
-        return Err(Refusal::Directions);
-    }
+    let directions = Directions::new(cos, sin)?;
     if count != 2 * k {
         return Err(Refusal::ColorCount);
     }
-    let metrics = measure(k, colors, cos, sin);
+    let metrics = measure(k, colors, &directions);
     let finding = first_finding(k, metrics);
     Ok(Validation { metrics, finding })
 }
@@ -214,17 +213,17 @@ fn tried(c: f32) -> bool
 }
 
 // Lowers a chroma by 0.05 while it is tried, until its palette has no finding.
-fn lower_from(design: Design, chroma: f32, cos: &[f32], sin: &[f32]) -> BackOff
-    requires { Ready design cos.now sin.now × (chroma_taken chroma ≡ true) }
-    ensures { (ending_of result ≡ end_of (judge_at design cos.now sin.now) chroma)
-        × (colors_in result ≡ colors_after design cos.now sin.now (value (end_of (judge_at design cos.now sin.now) chroma))) }
+fn lower_from(design: Design, chroma: f32, directions: &Directions<'_>) -> BackOff
+    requires { Ready design × (chroma_taken chroma ≡ true) }
+    ensures { (ending_of result ≡ end_of (judge_at design directions.now.cos.now directions.now.sin.now) chroma)
+        × (colors_in result ≡ colors_after design directions.now.cos.now directions.now.sin.now (value (end_of (judge_at design directions.now.cos.now directions.now.sin.now) chroma))) }
 {
     let mut c = chroma;
     let mut last = BackOff::Untried;
     // no count says how often: the chroma is lowered as long as it is tried
     while tried(c) {
-        let colors = colors_of(design, c, cos, sin);
-        match first_finding(design.k, measure(design.k, colors, cos, sin)) {
+        let colors = colors_of(design, c, directions);
+        match first_finding(design.k, measure(design.k, colors, directions)) {
             None => return BackOff::Passed { chroma: c, colors },
             Some(found) => last = BackOff::Found(found),
         }
@@ -239,6 +238,6 @@ pub fn back_off(design: Design, chroma: f32, cos: &[f32], sin: &[f32]) -> Result
     ensures { (back_off_said result ≡ back_off_says design chroma cos.now sin.now)
         × (colors_said result ≡ colors_after design cos.now sin.now (back_off_says design chroma cos.now sin.now)) }
 {
-    palette_checks::check_design(design, chroma, cos, sin)?;
-    Ok(lower_from(design, chroma, cos, sin))
+    let directions = palette_checks::check_design(design, chroma, cos, sin)?;
+    Ok(lower_from(design, chroma, &directions))
 }

@@ -5,11 +5,11 @@
 ghost use Rattle.std.specs.Prelude.{◌≡◌, leb, take};
 ghost use Rattle.std.specs.List.{list_all};
 ghost use Rattle.limits.specs.Answers.{value};
-ghost use Rattle.limits.specs.Refusals.{said};
+ghost use Rattle.limits.specs.Lent.{directions_said};
 ghost use Rattle.palette_checks.specs.Designs.{design_checked};
 
 use gamut::Gamut;
-use limits::Refusal;
+use limits::{Directions, Refusal};
 
 // What a palette is derived from, but for its chroma.
 #[derive(Clone, Copy)]
@@ -31,10 +31,15 @@ fn takes_hues(k: usize, hues: [u16; 16]) -> bool
     hues.iter().take(k).all(|hue| *hue <= 719)
 }
 
-// The first refusal of 1, 3, 9, 11 and 12.
+// The directions, or the first refusal of 1, 3, 9, 11 and 12.
 #[tactic(auto, using(crate::proofs::Hues::all_taken), unfolding(crate::specs::Designs::design_checked, crate::specs::Designs::levels_taken))]
-pub fn check_design(design: Design, chroma: f32, cos: &[f32], sin: &[f32]) -> Result<(), Refusal>
-    ensures { said result ≡ design_checked design chroma cos.now sin.now (value tt) }
+pub fn check_design<'a>(
+    design: Design,
+    chroma: f32,
+    cos: &'a [f32],
+    sin: &'a [f32],
+) -> Result<Directions<'a>, Refusal>
+    ensures { directions_said result ≡ design_checked design chroma cos.now sin.now (value (cos.now, sin.now)) }
 {
     if !limits::takes_hue_count(design.k) {
         return Err(Refusal::HueCount);
@@ -42,14 +47,12 @@ pub fn check_design(design: Design, chroma: f32, cos: &[f32], sin: &[f32]) -> Re
     if !limits::takes_chroma(chroma) {
         return Err(Refusal::Chroma);
     }
-    if !limits::takes_directions(cos, sin) {
-        return Err(Refusal::Directions);
-    }
+    let directions = Directions::new(cos, sin)?;
     if design.dark >= Gamut::LEVELS || design.light >= Gamut::LEVELS {
         return Err(Refusal::LevelIndex);
     }
     if !takes_hues(design.k, design.hues) {
         return Err(Refusal::HueIndex);
     }
-    Ok(())
+    Ok(directions)
 }

@@ -7,4 +7,4 @@ use Rattle.gamut.proofs.Rows.{entry}
 use Rattle.gamut.proofs.fill.Given as goal
 
 abbrev pub invariant-loop-j : goal.invariant-loop-j
-invariant-loop-j l = (k : ℕ) → k < l.j → get_or l.row k nan ≡ entry l.l l.cos l.sin k
+invariant-loop-j l = (k : ℕ) → k < l.j → get_or l.row k nan ≡ entry l.l l.directions.cos.now l.directions.sin.now k

@@ -5,4 +5,4 @@ use Rattle.hue.specs.Hue.{hue_from, hue_of}
 use Rattle.hue.proofs.hue_of.Given as goal
 
 abbrev pub invariant-loop-j : goal.invariant-loop-j
-invariant-loop-j l = hue_from l.cos l.sin l.a l.b (720 - l.j) l.j ≡ hue_of l.cos l.sin l.a l.b
+invariant-loop-j l = hue_from l.directions.cos.now l.directions.sin.now l.a l.b (720 - l.j) l.j ≡ hue_of l.directions.cos.now l.directions.sin.now l.a l.b

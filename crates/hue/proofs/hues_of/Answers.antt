@@ -19,22 +19,20 @@ black = record { r = 0; g = 0; b = 0 }
 pub loop-i-init : goal.loop-i-init
 unfolding of_bits of_int
 loop-i-init c =
-    let s = c.before.before in
-    let colors = s.args.colors in
+    let d = c.args.directions.now in
+    let colors = c.args.colors in
     let long : length colors ≡ 32 = omega arith in
-    ap (λ (n : ℕ). replicate n (f32_of 0)) (sym long) ∙ hues_none s.args.cos.now s.args.sin.now colors
+    ap (λ (n : ℕ). replicate n (f32_of 0)) (sym long) ∙ hues_none d.cos.now d.sin.now colors
 
 pub loop-i-preserved : goal.loop-i-preserved
 unfolding color_hue
 loop-i-preserved c =
-    let l = c.before.before.before.before in
-    let s = l.before.before.before in
-    let cs = s.args.cos.now in
-    let ss = s.args.sin.now in
-    let colors = s.args.colors in
-    let i = l.loop-i.i in
+    let cs = c.args.directions.now.cos.now in
+    let ss = c.args.directions.now.sin.now in
+    let colors = c.args.colors in
+    let i = c.loop-i.i in
     let v : c.hue_of.result ≡ color_hue cs ss (get_or colors i black) = c.hue_of.ensures ∙ ap (λ (x : Lab). hue_of cs ss x.a x.b) c.srgb8_to_lab-lab.ensures in
-    ap (λ (d : List Float). set d i c.hue_of.result) l.loop-i.invariant
+    ap (λ (d : List Float). set d i c.hue_of.result) c.loop-i.invariant
     ∙ ap (set (color_hues cs ss i colors) i) v
     ∙ hues_next cs ss i colors black (omega arith)
     ∙ ap (λ (n : ℕ). color_hues cs ss n colors) (sym (add-one i))

@@ -3,24 +3,24 @@ use mathlib.Core.Path.{sym, ap, ◌∙◌}
 use Rattle.std.proofs.lemmas.Result.{err_from_is_err_and}
 use Rattle.limits.specs.Answers.{value}
 use Rattle.palette.specs.BackOff.{end_of, judge_at, back_off_says, colors_after}
-use Rattle.palette.proofs.Checking.{ready, accepted, rejected}
+use Rattle.palette.proofs.Checking.{handed, ready, accepted, rejected}
 use Rattle.palette.proofs.back_off.Goals as goal
 
-pub lower_from-requires : goal.lower_from-requires
-lower_from-requires c =
-    let a = c.args in
-    ready a.design a.chroma a.cos.now a.sin.now c.check_design.result c.check_design.ensures c.in_ok-check_design.was
-
-pub returns-in_err-check_design : goal.returns-in_err-check_design
+pub returns-in_err-directions : goal.returns-in_err-directions
 unfolding back_off_says
-returns-in_err-check_design c =
+returns-in_err-directions c =
     let a = c.args in
     let d = a.design in
     let cs = a.cos.now in
     let ss = a.sin.now in
-    let e = rejected d a.chroma cs ss c.check_design.result c.check_design.ensures (value (end_of (judge_at d cs ss) a.chroma)) _ c.in_err-check_design.was in
+    let e = rejected d a.chroma cs ss c.check_design.result c.check_design.ensures (value (end_of (judge_at d cs ss) a.chroma)) _ c.in_err-directions.was in
     let p = err_from_is_err_and c.from_residual.result c.from_residual.ensures.1 in
     rw (p.1, p.2) (sym e, sym (ap (colors_after d cs ss) e))
+
+pub lower_from-requires : goal.lower_from-requires
+lower_from-requires c =
+    let a = c.args in
+    ready a.design a.chroma a.cos.now a.sin.now c.check_design.result c.check_design.ensures c.in_ok-directions.directions c.in_ok-directions.was
 
 pub returns : goal.returns
 unfolding back_off_says
@@ -29,5 +29,9 @@ returns c =
     let d = a.design in
     let cs = a.cos.now in
     let ss = a.sin.now in
-    let e = accepted d a.chroma cs ss c.check_design.result c.check_design.ensures (value (end_of (judge_at d cs ss) a.chroma)) c.in_ok-check_design.was in
-    (ap value c.lower_from.ensures.0 ∙ sym e, c.lower_from.ensures.1 ∙ sym (ap (colors_after d cs ss) e))
+    let k = c.check_design in
+    let o = c.in_ok-directions in
+    let h = handed d a.chroma cs ss k.result k.ensures o.directions o.was in
+    let v = rw (h.0, h.1) at c.lower_from.ensures in
+    let e = accepted d a.chroma cs ss k.result k.ensures (value (end_of (judge_at d cs ss) a.chroma)) o.directions o.was in
+    (ap value v.0 ∙ sym e, v.1 ∙ sym (ap (colors_after d cs ss) e))

@@ -2,7 +2,7 @@
 use mathlib.Core.Path.{sym, ◌∙◌}
 use Prim.Native.Nat.{◌-◌}
 use native.Mathlib.Omega.{arith}
-use Rattle.palette.proofs.Ready.{few_hues, levels_in_range, hue_in, long}
+use Rattle.palette.proofs.Ready.{few_hues, levels_in_range, hue_in}
 use Rattle.palette.proofs.Colors.{dark_at_lem, light_at_lem}
 use Rattle.palette.proofs.color_at.Goals as goal
 
@@ -14,15 +14,14 @@ bounds-design-i c = let f = few_hues c.requires.0 in omega arith
 
 pub color_of-requires : goal.color_of-requires
 color_of-requires c =
-    let s = c.before.before.before.before in
-    let l = levels_in_range s.requires.0 in
-    (omega arith, hue_in s.requires.0 s.args.i c.if-i-design.true, (long s.requires.0).0, (long s.requires.0).1)
+    let l = levels_in_range c.requires.0 in
+    (omega arith, hue_in c.requires.0 c.args.i c.if-i-design.true)
 
 pub returns-then-i-design : goal.returns-then-i-design
 returns-then-i-design c =
     let a = c.args in
     let few = few_hues c.requires.0 in
-    c.color_of.ensures ∙ sym (dark_at_lem a.design a.chroma a.cos.now a.sin.now (omega arith) a.i c.if-i-design.true)
+    c.color_of.ensures ∙ sym (dark_at_lem a.design a.chroma a.directions.now.cos.now a.directions.now.sin.now (omega arith) a.i c.if-i-design.true)
 
 pub bounds-design-i-2 : goal.bounds-design-i-2
 bounds-design-i-2 c = let f = few_hues c.requires.0 in omega arith
@@ -30,10 +29,10 @@ bounds-design-i-2 c = let f = few_hues c.requires.0 in omega arith
 pub color_of-requires-2 : goal.color_of-requires-2
 color_of-requires-2 c =
     let l = levels_in_range c.requires.0 in
-    (omega arith, hue_in c.requires.0 (c.args.i - c.args.design.k) (omega arith), (long c.requires.0).0, (long c.requires.0).1)
+    (omega arith, hue_in c.requires.0 (c.args.i - c.args.design.k) (omega arith))
 
 pub returns : goal.returns
 returns c =
     let a = c.args in
     let few = few_hues c.requires.0 in
-    c.color_of-2.ensures ∙ sym (light_at_lem a.design a.chroma a.cos.now a.sin.now (omega arith) a.i c.if-i-design.false c.requires.1)
+    c.color_of-2.ensures ∙ sym (light_at_lem a.design a.chroma a.directions.now.cos.now a.directions.now.sin.now (omega arith) a.i c.if-i-design.false c.requires.1)

@@ -18,4 +18,4 @@ clipped n c cs ss j l r e f = rw (f, e)
 pub returns : goal.returns
 returns c =
     let a = c.args in
-    clipped a.level a.chroma a.cos.now a.sin.now a.hue _ _ c.l_of-l.ensures c.lch_to_srgb8_gamut_clipped.ensures
+    clipped a.level a.chroma a.directions.now.cos.now a.directions.now.sin.now a.hue _ _ c.l_of-l.ensures c.lch_to_srgb8_gamut_clipped.ensures

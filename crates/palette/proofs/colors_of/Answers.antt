@@ -40,6 +40,6 @@ returns c =
     let d = c.args.design in
     let f = few_hues c.requires in
     let v = c.loop-i.invariant in
-    colors_are d c.args.chroma c.args.cos.now c.args.sin.now (omega arith) f c.loop-i.colors v.long
+    colors_are d c.args.chroma c.args.directions.now.cos.now c.args.directions.now.sin.now (omega arith) f c.loop-i.colors v.long
     (λ (p : ℕ) (g : p < d.k + d.k). v.written p (omega arith))
     (λ (p : ℕ) (g : d.k + d.k ≤ p). v.left p (omega arith))

@@ -9,6 +9,6 @@ use Rattle.palette.proofs.colors_of.Given as goal
 abbrev pub invariant-loop-i : goal.invariant-loop-i
 invariant-loop-i l = record {
   long : length l.colors ≡ 32;
-  written : (p : ℕ) → p < l.i → get_or l.colors p black ≡ color_at l.design l.chroma l.cos l.sin p;
+  written : (p : ℕ) → p < l.i → get_or l.colors p black ≡ color_at l.design l.chroma l.directions.cos.now l.directions.sin.now p;
   left : (p : ℕ) → l.i ≤ p → get_or l.colors p black ≡ black;
 }

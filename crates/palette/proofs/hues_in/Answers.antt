@@ -39,15 +39,17 @@ taken_hues (Err w) v h = cc
 pub unwrap-requires : goal.unwrap-requires
 unwrap-requires c =
     let a = c.args in
+    let d = a.directions.now in
     let wide : length a.colors ≡ 32 = omega arith in
-    taken_hues c.srgb8_hues.result _ (c.srgb8_hues.ensures ∙ given a.cos.now a.sin.now a.n a.colors c.requires.0 c.requires.1 wide)
+    taken_hues c.srgb8_hues.result _ (c.srgb8_hues.ensures ∙ given d.cos.now d.sin.now a.n a.colors c.requires d.taken wide)
 
 pub returns : goal.returns
 returns c =
     let a = c.args in
-    let cs = a.cos.now in
-    let ss = a.sin.now in
+    let d = a.directions.now in
+    let cs = d.cos.now in
+    let ss = d.sin.now in
     let wide : length a.colors ≡ 32 = omega arith in
     let e : c.unwrap.result ≡ color_hues cs ss a.n a.colors =
-    same_value _ _ (ap said (sym c.unwrap.ensures) ∙ c.srgb8_hues.ensures ∙ given cs ss a.n a.colors c.requires.0 c.requires.1 wide) in
-    rw e (measured cs ss a.n a.colors c.requires.0 c.requires.1 wide)
+    same_value _ _ (ap said (sym c.unwrap.ensures) ∙ c.srgb8_hues.ensures ∙ given cs ss a.n a.colors c.requires d.taken wide) in
+    rw e (measured cs ss a.n a.colors c.requires d.taken wide)

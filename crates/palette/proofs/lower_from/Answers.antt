@@ -35,12 +35,12 @@ returns-in-None c =
     let a = c.args in
     let i = c.loop-last.invariant.1 in
     let t : tried c.loop-last.c ≡ true = sym c.tried.ensures ∙ c.loop-last-test.true in
-    let found : judge_at a.design a.cos.now a.sin.now c.loop-last.c ≡ passed =
-    judge_is a.design a.cos.now a.sin.now c.loop-last.c c.colors_of-colors.result c.measure.result (verdict_said c.first_finding.result)
+    let found : judge_at a.design a.directions.now.cos.now a.directions.now.sin.now c.loop-last.c ≡ passed =
+    judge_is a.design a.directions.now.cos.now a.directions.now.sin.now c.loop-last.c c.colors_of-colors.result c.measure.result (verdict_said c.first_finding.result)
     c.colors_of-colors.ensures c.measure.ensures c.first_finding.ensures
     ∙ ap verdict_said c.in-None.is in
-    let e : passes c.loop-last.c ≡ end_of (judge_at a.design a.cos.now a.sin.now) a.chroma = sym (passing (judge_at a.design a.cos.now a.sin.now) c.loop-last.c i.0 c.loop-last.invariant.0 t found) ∙ i.1.1.1 in
-    (e, c.colors_of-colors.ensures ∙ ap (λ (x : Ending). colors_after a.design a.cos.now a.sin.now (value x)) e)
+    let e : passes c.loop-last.c ≡ end_of (judge_at a.design a.directions.now.cos.now a.directions.now.sin.now) a.chroma = sym (passing (judge_at a.design a.directions.now.cos.now a.directions.now.sin.now) c.loop-last.c i.0 c.loop-last.invariant.0 t found) ∙ i.1.1.1 in
+    (e, c.colors_of-colors.ensures ∙ ap (λ (x : Ending). colors_after a.design a.directions.now.cos.now a.directions.now.sin.now (value x)) e)
 
 pub loop-last-smaller : goal.loop-last-smaller
 unfolding lower round of_bits
@@ -54,15 +54,15 @@ loop-last-preserved c =
     let low = c.loop-last.invariant.0 in
     let t : tried c.loop-last.c ≡ true = sym c.tried.ensures ∙ c.loop-last-test.true in
     let n = finding_number c.in-Some.found in
-    let found : judge_at a.design a.cos.now a.sin.now c.loop-last.c ≡ finding n =
-    judge_is a.design a.cos.now a.sin.now c.loop-last.c c.colors_of-colors.result c.measure.result (verdict_said c.first_finding.result)
+    let found : judge_at a.design a.directions.now.cos.now a.directions.now.sin.now c.loop-last.c ≡ finding n =
+    judge_is a.design a.directions.now.cos.now a.directions.now.sin.now c.loop-last.c c.colors_of-colors.result c.measure.result (verdict_said c.first_finding.result)
     c.colors_of-colors.ensures c.measure.ensures c.first_finding.ensures
     ∙ ap verdict_said c.in-Some.is in
-    ((lowered c.loop-last.c low t).0, (n, (refl, (refl, sym (lowering (judge_at a.design a.cos.now a.sin.now) c.loop-last.c i.0 n low t found) ∙ i.1.1.1))))
+    ((lowered c.loop-last.c low t).0, (n, (refl, (refl, sym (lowering (judge_at a.design a.directions.now.cos.now a.directions.now.sin.now) c.loop-last.c i.0 n low t found) ∙ i.1.1.1))))
 
 pub returns : goal.returns
 returns c =
     let a = c.args in
     let i = c.loop-last.invariant.1 in
-    let e : lastly i.0 ≡ end_of (judge_at a.design a.cos.now a.sin.now) a.chroma = sym (untried (judge_at a.design a.cos.now a.sin.now) c.loop-last.c i.0 (sym c.tried.ensures ∙ c.loop-last-test.false)) ∙ i.1.1.1 in
-    (i.1.0 ∙ e, i.1.1.0 ∙ ap (λ (x : Ending). colors_after a.design a.cos.now a.sin.now (value x)) e)
+    let e : lastly i.0 ≡ end_of (judge_at a.design a.directions.now.cos.now a.directions.now.sin.now) a.chroma = sym (untried (judge_at a.design a.directions.now.cos.now a.directions.now.sin.now) c.loop-last.c i.0 (sym c.tried.ensures ∙ c.loop-last-test.false)) ∙ i.1.1.1 in
+    (i.1.0 ∙ e, i.1.1.0 ∙ ap (λ (x : Ending). colors_after a.design a.directions.now.cos.now a.directions.now.sin.now (value x)) e)

@@ -11,7 +11,7 @@ use Rattle.palette.proofs.lower_from.Given as goal
 
 abbrev pub invariant-loop-last : goal.invariant-loop-last
 invariant-loop-last l =
-    Low l.c × ((n : ℕ) × ((ending_of l.last ≡ lastly n) × ((colors_in l.last ≡ replicate 32 black) × (end_after (judge_at l.design l.cos l.sin) l.c n ≡ end_of (judge_at l.design l.cos l.sin) l.chroma))))
+    Low l.c × ((n : ℕ) × ((ending_of l.last ≡ lastly n) × ((colors_in l.last ≡ replicate 32 black) × (end_after (judge_at l.design l.directions.cos.now l.directions.sin.now) l.c n ≡ end_of (judge_at l.design l.directions.cos.now l.directions.sin.now) l.chroma))))
 
 abbrev pub decreases-loop-last : goal.decreases-loop-last
 decreases-loop-last l = to_bits binary32 l.c

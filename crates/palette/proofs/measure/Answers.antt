@@ -23,34 +23,34 @@ module _ (k : ℕ) (colors : List Srgb8) (one : k ≡ 1) where
   no_chroma = rw (one, one_chroma colors)
 
 pub overflow_mul-k : goal.overflow_mul-k
-overflow_mul-k c = let h = (hue_count c.args.k c.requires.hue_count).1 in omega arith
+overflow_mul-k c = let h = (hue_count c.args.k c.requires).1 in omega arith
 
 pub parts_of-requires : goal.parts_of-requires
-parts_of-requires c = let h = (hue_count c.args.k c.requires.hue_count).1 in omega arith
+parts_of-requires c = let h = (hue_count c.args.k c.requires).1 in omega arith
 
 pub returns-then-k-lt2 : goal.returns-then-k-lt2
 unfolding of_bits
 returns-then-k-lt2 c =
     let a = c.args in
-    let h = (hue_count a.k c.requires.hue_count).0 in
+    let h = (hue_count a.k c.requires).0 in
     let one : a.k ≡ 1 = omega arith in
     let two : 2 * a.k ≡ a.k + a.k = omega arith in
     let m = c.parts_of in
     let lightness : Measured lightness_of (a.k + a.k) a.colors m.result.l = rw two at m.ensures.0 in
-    metrics_are a.k a.colors _ _ a.cos.now a.sin.now c.gap_of-gap.result c.spread_of-spread.result (inf false) (inf false)
+    metrics_are a.k a.colors _ _ a.directions.now.cos.now a.directions.now.sin.now c.gap_of-gap.result c.spread_of-spread.result (inf false) (inf false)
     (dark_is lightness_of a.colors m.result.l a.k lightness)
     (light_is lightness_of a.colors m.result.l a.k lightness)
     c.gap_of-gap.ensures
     c.spread_of-spread.ensures
-    (no_separation a.k a.colors one a.cos.now a.sin.now)
+    (no_separation a.k a.colors one a.directions.now.cos.now a.directions.now.sin.now)
     (no_chroma a.k a.colors one)
 
 pub returns : goal.returns
 returns c =
     let k = c.args.k in
     let colors = c.args.colors in
-    let cs = c.args.cos.now in
-    let ss = c.args.sin.now in
+    let cs = c.args.directions.now.cos.now in
+    let ss = c.args.directions.now.sin.now in
     let two : 2 * k ≡ k + k = omega arith in
     let m = c.parts_of in
     let lightness : Measured lightness_of (k + k) colors m.result.l = rw two at m.ensures.0 in
