@@ -111,6 +111,7 @@ fn asked_in(rt: &impl Print, bytes: &[u8]) -> Option<Asked> {
 }
 
 // Reads until a buffer is full, the input ends or a read fails, and gives how many bytes stand at its start.
+// A `while`: each turn goes on by what a read brought, so there is nothing to count or to go over.
 fn read_full(reader: &mut impl Read, buffer: &mut [u8]) -> usize {
     let mut done = 0;
     while done < buffer.len() {
