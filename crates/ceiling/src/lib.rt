@@ -69,7 +69,6 @@ fn raised(x: f32, so: Option<f32>) -> f32
 }
 
 // The ceiling so far with one more pair of levels, of which the dark row's largest entry is a and the light row's b.
-#[tactic(auto, unfolding(pair_rules::specs::Rows::lesser))]
 fn with_pair(
     settings: Settings,
     dark: usize,
@@ -84,9 +83,7 @@ fn with_pair(
     if !search_checks::qualifies(settings, dark as u16, light as u16) {
         return so;
     }
-    // one comparison: `f32::min` leaves open which of two zeros it gives
-    let lesser = if b < a { b } else { a };
-    Some(raised(lesser, so))
+    Some(raised(pair_rules::lesser(a, b), so))
 }
 
 // The ceiling of a job that is not broken, over a table of its levels.

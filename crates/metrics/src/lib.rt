@@ -9,6 +9,8 @@ ghost use Rattle.std.specs.Float.Ieee.{sub};
 ghost use Rattle.pair_rules.specs.Rows.{lesser, greater};
 ghost use Rattle.metrics.specs.Metrics.{highest, lowest, greatest, least, spread_in, absolute, apart, least_from, least_apart};
 
+use pair_rules::{greater, lesser};
+
 // What is measured of a palette.
 #[derive(Clone, Copy)]
 pub struct Metrics {
@@ -20,22 +22,6 @@ pub struct Metrics {
     pub separation: f32,
     // the least chroma; plus infinity for one hue
     pub chroma: f32,
-}
-
-// The lesser of two numbers, by one comparison: `f32::min` leaves open which of two zeros it gives.
-#[tactic(auto, unfolding(pair_rules::specs::Rows::lesser))]
-fn lesser(a: f32, b: f32) -> f32
-    ensures { result ≡ lesser a b }
-{
-    if b < a { b } else { a }
-}
-
-// The greater of two numbers, by one comparison.
-#[tactic(auto, unfolding(pair_rules::specs::Rows::greater))]
-fn greater(a: f32, b: f32) -> f32
-    ensures { result ≡ greater a b }
-{
-    if a < b { b } else { a }
 }
 
 // The greatest of `from` and of some numbers.

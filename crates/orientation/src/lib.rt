@@ -6,13 +6,14 @@ ghost use Rattle.std.specs.Prelude.{◌≡◌, [], ◌∷◌, replicate};
 ghost use Rattle.limits.specs.Answers.{value};
 ghost use Rattle.limits.specs.Refusals.{said};
 ghost use Rattle.gamut.specs.Table.{row_at};
-ghost use Rattle.pair_rules.specs.Rows.{lesser, value_at};
+ghost use Rattle.pair_rules.specs.Rows.{value_at};
 ghost use Rattle.orientation_rules.specs.Orientation.{replaces, over_partners, best_fixed, orientation_checked, orientation_says, Gives};
 ghost use Rattle.orientation.specs.Inner.{best_of, There, Paired, Taken, Lit, Passed, Handed};
 
 use gamut::Gamut;
 use limits::Refusal;
 pub use orientation_rules::Oriented;
+use pair_rules::lesser;
 
 // The first refusal of a call, of 2, 6, 7 over the whole table and 12.
 #[tactic(auto, unfolding(orientation_rules::specs::Orientation::orientation_checked))]
@@ -47,14 +48,6 @@ fn replaces(chroma: f32, best: Option<Kept>) -> bool
         None => 35.0 <= chroma,
         Some(kept) => kept.chroma < chroma,
     }
-}
-
-// The lesser of two numbers, by one comparison: `f32::min` leaves open which of two zeros it gives.
-#[tactic(auto, unfolding(pair_rules::specs::Rows::lesser))]
-fn lesser(x: f32, y: f32) -> f32
-    ensures { result ≡ lesser x y }
-{
-    if y < x { y } else { x }
 }
 
 // What a hue has at two levels.
