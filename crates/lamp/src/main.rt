@@ -16,24 +16,19 @@ mod words;
 use input::Asked;
 use limits::Refusal;
 use palette::{BackOff, Design, Validation};
-use search::{Best, Job, Settings};
+use search::{Best, Job};
 use srgb::Srgb8;
 use words::{Found, Refused};
 
 // What validation says of the colours of k hues.
-fn measured(
-    k: usize,
-    colors: [Srgb8; 32],
-    cos: &[f32],
-    sin: &[f32],
-) -> Result<Validation, Refusal> {
-    palette::validate(k, colors, k.wrapping_add(k), cos, sin)
+fn measured(k: usize, colors: [Srgb8; 32], asked: &Asked) -> Result<Validation, Refusal> {
+    palette::validate(k, colors, k.wrapping_add(k), &asked.cos, &asked.sin)
 }
 
 // Derives a design's palette at the chroma found, and writes what validation says of it.
-fn derive(rt: &impl Print, design: Design, chroma: f32, cos: &[f32], sin: &[f32]) {
-    match palette::derive(design, chroma, cos, sin) {
-        Ok(colors) => colors::validation(rt, measured(design.k, colors, cos, sin)),
+fn derive(rt: &impl Print, design: Design, chroma: f32, asked: &Asked) {
+    match palette::derive(design, chroma, &asked.cos, &asked.sin) {
+        Ok(colors) => colors::validation(rt, measured(design.k, colors, asked)),
         Err(why) => {
             let _ = println!(rt; "{}", Refused(why));
         }
@@ -41,11 +36,11 @@ fn derive(rt: &impl Print, design: Design, chroma: f32, cos: &[f32], sin: &[f32]
 }
 
 // Backs off from the chroma found, and writes what comes of it: of the chroma that passed, what is measured and the colours.
-fn back_off(rt: &impl Print, design: Design, chroma: f32, cos: &[f32], sin: &[f32]) {
+fn back_off(rt: &impl Print, design: Design, chroma: f32, asked: &Asked) {
     let _ = print!(rt; "backed off, this design alone: ");
-    let _ = match palette::back_off(design, chroma, cos, sin) {
+    let _ = match palette::back_off(design, chroma, &asked.cos, &asked.sin) {
         Ok(BackOff::Passed { chroma, colors }) => {
-            let said = measured(design.k, colors, cos, sin);
+            let said = measured(design.k, colors, asked);
             colors::passed(rt, design, chroma, colors, said);
             Ok(())
         }
@@ -59,7 +54,7 @@ fn back_off(rt: &impl Print, design: Design, chroma: f32, cos: &[f32], sin: &[f3
 }
 
 // Writes what a search found, with its colours.
-fn finish(rt: &impl Print, found: Job, cos: &[f32], sin: &[f32]) {
+fn finish(rt: &impl Print, found: Job, asked: &Asked) {
     let Job {
         settings,
         best,
@@ -78,18 +73,18 @@ fn finish(rt: &impl Print, found: Job, cos: &[f32], sin: &[f32]) {
             };
             show::found(rt, design, tightest, chroma);
             show::limit(rt, settings, chroma);
-            derive(rt, design, chroma, cos, sin);
-            back_off(rt, design, chroma, cos, sin);
+            derive(rt, design, chroma, asked);
+            back_off(rt, design, chroma, asked);
         }
     }
 }
 
 // Searches a table, and writes what is found.
-fn search_in(rt: &impl Print, table: &[f32], settings: Settings, cos: &[f32], sin: &[f32]) {
-    match job::search_in(rt, table, settings) {
+fn search_in(rt: &impl Print, table: &[f32], asked: &Asked) {
+    match job::search_in(rt, table, asked.settings) {
         Ok(last) => {
             book::write(rt, last);
-            finish(rt, last, cos, sin);
+            finish(rt, last, asked);
         }
         Err(why) => {
             let _ = println!(rt; "{}", Refused(why));
@@ -100,10 +95,10 @@ fn search_in(rt: &impl Print, table: &[f32], settings: Settings, cos: &[f32], si
 // Fills the table by the directions, searches it, and writes what is found.
 fn run(rt: &impl Print, asked: &Asked) {
     let mut entries = [0.0; table::ENTRIES];
-    match table::fill(&mut entries, &asked.cos, &asked.sin) {
+    match table::fill(&mut entries, asked) {
         Ok(()) => {
             let _ = println!(rt; "filled 169 levels of 720 hues");
-            search_in(rt, &entries, asked.settings, &asked.cos, &asked.sin);
+            search_in(rt, &entries, asked);
         }
         Err(why) => {
             let _ = println!(rt; "{}", Refused(why));

@@ -27,8 +27,7 @@ pub fn keep(buffer: &mut [u8; 4096], held: usize, byte: u8) -> usize
 }
 
 // Writes the answer to the line that is held over the front of a text, and gives its length.
-fn answer_held(buffer: &[u8], held: usize, text: &mut [u8; 64]) -> usize
-    requires { length buffer.now ≡ 4096 }
+pub fn answer_kept(buffer: &[u8; 4096], held: usize, text: &mut [u8; 64]) -> usize
     ensures { Laid text.old (answer_kept (kept_in buffer.now held)) text.new result }
 {
     if held <= 4096 {
@@ -37,20 +36,12 @@ fn answer_held(buffer: &[u8], held: usize, text: &mut [u8; 64]) -> usize
     ring_answers::answer_longer(text)
 }
 
-// Writes the answer to the line that is held over the front of a text, and gives its length.
-pub fn answer_kept(buffer: &[u8; 4096], held: usize, text: &mut [u8; 64]) -> usize
-    ensures { Laid text.old (answer_kept (kept_in buffer.now held)) text.new result }
-{
-    answer_held(buffer, held, text)
-}
-
 // Puts the answer to the line that is held at a place of the answers, and gives the next place.
-fn put_answer(buffer: &[u8], held: usize, out: &mut [u8], at: usize) -> usize
-    requires { length buffer.now ≡ 4096 }
+fn put_answer(buffer: &[u8; 4096], held: usize, out: &mut [u8], at: usize) -> usize
     ensures { PutIn out.old at (answer_kept (kept_in buffer.now held)) out.new result }
 {
     let mut text = [0u8; 64];
-    let n = answer_held(buffer, held, &mut text);
+    let n = answer_kept(buffer, held, &mut text);
     text::put_bytes(out, at, &text[..n])
 }
 
@@ -89,8 +80,7 @@ pub fn answer_piece(
 }
 
 // Whether nothing is written for what is held in a buffer where the input ends.
-fn ends_empty(buffer: &[u8], held: usize) -> bool
-    requires { length buffer.now ≡ 4096 }
+fn ends_empty(buffer: &[u8; 4096], held: usize) -> bool
     ensures { written_at_end (kept_in buffer.now held) ≡ cond result [] (answer_kept (kept_in buffer.now held)) }
 {
     held == 0
