@@ -6,6 +6,7 @@ use limits::Refusal;
 use std::fmt;
 
 // The words of what came out of a case, as many as a line can have at most.
+// An array and a count, as there is no heap here.
 #[derive(Clone, Copy)]
 pub struct Answer {
     words: [u32; MOST],

@@ -19,6 +19,7 @@ const TURNS: u64 = 0x100_0000_0000;
 const READ: usize = 4096;
 
 // How far a list was read.
+// An array and a count, as there is no heap here.
 #[derive(Drop)]
 struct Reader {
     // the line read last

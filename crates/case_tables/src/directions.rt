@@ -24,7 +24,7 @@ impl Directions {
     }
 
     // Sets direction j, if there is one, by the patterns of its components.
-    pub fn set(&mut self, j: u32, cos: u32, sin: u32) -> Option<()> {
+    pub fn try_set(&mut self, j: u32, cos: u32, sin: u32) -> Option<()> {
         *self.cos.get_mut(j as usize)? = patterns::float_of(cos);
         *self.sin.get_mut(j as usize)? = patterns::float_of(sin);
         Some(())
@@ -108,7 +108,7 @@ impl Lending {
     pub fn take_line(&mut self, line: &Line) -> Option<()> {
         match (line.operation(), line.words()) {
             // dir j cos sin: sets direction j
-            (b"dir", [j, cos, sin]) => self.directions.set(*j, *cos, *sin)?,
+            (b"dir", [j, cos, sin]) => self.directions.try_set(*j, *cos, *sin)?,
 
             // bad which j bits: the next case is lent this as cosine (0) or sine (1) j
             (b"bad", [which, j, bits]) => self.replace(*which, *j as usize, *bits)?,

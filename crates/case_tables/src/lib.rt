@@ -5,6 +5,7 @@ pub mod directions;
 
 use crate::directions::Directions;
 use case_lines::entries;
+use case_lines::entries::Row;
 use cases::Line;
 
 // How many entries a table can have, those refused among them.
@@ -18,6 +19,7 @@ fn copy(table: &mut [f32], at: usize, from: usize, count: usize) -> Option<()> {
     if at.checked_add(count)? > table.len() || from.checked_add(count)? > table.len() {
         return None;
     }
+    // by the index: where both overlap, entries that were set are copied on, which `copy_within` does not do
     for i in 0..count {
         table[at + i] = table[from + i];
     }
@@ -35,9 +37,7 @@ fn row_at(table: &mut [f32], place: usize) -> Option<&mut [f32]> {
 #[derive(Drop)]
 pub struct Table {
     directions: Directions,
-    entries: [f32; STORED],
-    // how many of them it has
-    length: usize,
+    rows: Row<STORED>,
 }
 
 impl Table {
@@ -45,23 +45,13 @@ impl Table {
     pub fn new() -> Table {
         Table {
             directions: Directions::new(),
-            entries: [0.0; STORED],
-            length: 0,
+            rows: Row::new(),
         }
     }
 
     // Its entries.
     pub fn entries(&self) -> &[f32] {
-        &self.entries[..self.length.min(STORED)]
-    }
-
-    // Takes another length, if a table can have it.
-    fn set_length(&mut self, length: usize) -> Option<()> {
-        if length > STORED {
-            return None;
-        }
-        self.length = length;
-        Some(())
+        self.rows.entries()
     }
 
     // Fills the first rows for so many levels from one of them on, as far as that can be done.
@@ -69,7 +59,7 @@ impl Table {
         let Directions { cos, sin } = &self.directions;
         for place in 0..count {
             let level = first.checked_add(place)?;
-            let row = row_at(&mut self.entries, place)?;
+            let row = row_at(self.rows.all_mut(), place)?;
             gamut::fill_row(level, cos, sin, row).ok()?;
         }
         Some(())
@@ -79,24 +69,29 @@ impl Table {
     pub fn take_line(&mut self, line: &Line) -> Option<()> {
         match (line.operation(), line.words()) {
             // dir j cos sin: sets direction j
-            (b"dir", [j, cos, sin]) => self.directions.set(*j, *cos, *sin),
+            (b"dir", [j, cos, sin]) => self.directions.try_set(*j, *cos, *sin),
 
             // table n: the table has n entries, which are as they were
-            (b"table", [n]) => self.set_length(*n as usize),
+            (b"table", [n]) => self.rows.set_length(*n as usize),
 
             // more i e ..: the entries from i on are these
             (b"more", [i, words @ ..]) if !words.is_empty() => {
-                entries::put(&mut self.entries, *i as usize, words)
+                entries::try_put(self.rows.all_mut(), *i as usize, words)
             }
 
             // same i n e: n entries, from i on, are all this one
             (b"same", [i, n, e]) => {
                 let entry = patterns::float_of(*e);
-                entries::put_same(&mut self.entries, *i as usize, *n as usize, entry)
+                entries::try_put_same(self.rows.all_mut(), *i as usize, *n as usize, entry)
             }
 
             // copy i j n: n entries, from i on, are those from j on
-            (b"copy", [i, j, n]) => copy(&mut self.entries, *i as usize, *j as usize, *n as usize),
+            (b"copy", [i, j, n]) => copy(
+                self.rows.all_mut(),
+                *i as usize,
+                *j as usize,
+                *n as usize,
+            ),
 
             // panel i n: the first n rows are filled for the levels from i on
             (b"panel", [i, n]) => self.fill_rows(*i as usize, *n as usize),

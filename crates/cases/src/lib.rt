@@ -46,6 +46,7 @@ pub enum Found {
 }
 
 // A line as far as it was read.
+// An array and a count, as there is no heap here.
 #[derive(Clone, Copy)]
 pub struct Line {
     // which line of the list it is, from 1

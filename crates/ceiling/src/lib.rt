@@ -69,6 +69,7 @@ fn raised(x: f32, so: Option<f32>) -> f32
 }
 
 // The ceiling so far with one more pair of levels, of which the dark row's largest entry is a and the light row's b.
+// The two indices are kept apart, as document 01 names them in `Best::Found`.
 fn with_pair(
     settings: Settings,
     dark: usize,

@@ -1,7 +1,7 @@
 // Functions for callers in other languages, each exported under its own name. A slice is handed over as the address of its
 // first element, then its length; what is written must overlap nothing else that is handed over. A bool is 0 or 1. A work buffer
 // has at least one entry for each position of the ring, 720 for a search or a set of levels; what it holds does not matter.
-// They are run by `compare/bench`.
+// Numbers, lent places and parameters one by one are what the C interface needs. They are run by `compare/bench`.
 #![tactic(auto)]
 
 ghost use Rattle.std.specs.Prelude.{◌≡◌, map, ℕ, length};

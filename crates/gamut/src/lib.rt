@@ -101,6 +101,7 @@ fn fill(l: f32, directions: &Directions<'_>, row: &mut [f32])
 }
 
 // Fills the row of one level, by 720 lent directions. Refused by 9, 10 or 11, and then the row is as before.
+// Kept as two slices: it is this call that refuses them.
 #[tactic(auto, unfolding(crate::specs::Gamut::fill_says, crate::specs::Gamut::row_after))]
 pub fn fill_row(level: usize, cos: &[f32], sin: &[f32], row: &mut [f32]) -> Result<(), Refusal>
     ensures { (said result ≡ fill_says level cos.now sin.now row.old)

@@ -1,5 +1,5 @@
 // What a call on rows and rings hands to a caller in another language: one number, and what is written where it is lent.
-// It is run by `compare/bench`.
+// Numbers, lent places and parameters one by one are what the C interface needs. It is run by `compare/bench`.
 #![tactic(auto)]
 
 ghost use Rattle.std.specs.Prelude.{◌≡◌, ℕ, length};

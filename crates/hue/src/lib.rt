@@ -41,6 +41,7 @@ fn hue_of(directions: &Directions<'_>, a: f32, b: f32) -> f32
 }
 
 // The hue of a colour in degrees, by 720 lent directions: 360 itself can occur. Refused by 9 for the directions, by 16 for a or b.
+// Kept as two slices: it is this call that refuses them.
 #[tactic(auto, unfolding(crate::specs::Hue::hue_says))]
 pub fn hue_deg(lab: Lab, cos: &[f32], sin: &[f32]) -> Result<f32, Refusal>
     ensures { said result ≡ hue_says cos.now sin.now lab.a lab.b }
@@ -67,6 +68,7 @@ fn hues_of(n: usize, colors: [Srgb8; 32], directions: &Directions<'_>) -> [f32; 
 
 // The hues in degrees of the first n of 32 colours, by 720 lent directions, and zeros after them: every colour has one. Refused by 9 for
 // the directions, by 13 for a count above 32.
+// Kept as two slices: it is this call that refuses them.
 #[tactic(auto, unfolding(crate::specs::Hue::hues_says))]
 pub fn srgb8_hues(
     n: usize,

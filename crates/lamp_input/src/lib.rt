@@ -15,6 +15,7 @@ pub struct Ask {
 }
 
 // What was read of a line so far, behind `ask` and a space.
+// A state with more than one case, so no `Option` of a value.
 #[derive(Clone, Copy)]
 enum Part {
     // nothing

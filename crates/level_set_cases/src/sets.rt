@@ -8,6 +8,7 @@ use limits::Refusal;
 const LISTED: usize = 23;
 
 // The level indices of a set.
+// An array and a count, as there is no heap here.
 #[derive(Clone, Copy)]
 pub struct Levels {
     indices: [usize; LISTED],

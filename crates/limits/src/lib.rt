@@ -145,6 +145,7 @@ pub fn takes_entries(entries: &[f32]) -> bool
 }
 
 // Whether every component of one slice of directions is taken.
+// Kept beside `takes_entries`: the test handed in as a closure would need a clause for what it says of each number.
 fn takes_components(components: &[f32]) -> bool
     ensures { result ≡ every direction_taken components.now }
 {

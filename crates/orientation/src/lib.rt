@@ -51,6 +51,7 @@ fn replaces(chroma: f32, best: Option<Kept>) -> bool
 }
 
 // What a hue has at two levels.
+// The two indices are kept apart, as document 01 names them in `Best::Found`.
 fn value_at(table: &[f32], dark: usize, light: usize, hue: usize) -> f32
     requires { There table.now dark light hue }
     ensures { result ≡ value_at (row_at table.now dark ∷ row_at table.now light ∷ []) hue }

@@ -89,6 +89,7 @@ fn put_none(page: &mut [u8], k: usize) -> usize
 }
 
 // Puts the hue count and the two levels at the start of a page, and gives the next place.
+// The two indices are kept apart, as document 01 names them in `Best::Found`.
 fn put_levels(page: &mut [u8], k: usize, dark: usize, light: usize) -> usize
     ensures { PutIn page.old 0 (lines_of (row hues_word k ∷ row dark_word dark ∷ row light_word light ∷ [])) page.new result }
 {

@@ -16,6 +16,7 @@ use placement::Placement;
 
 // The first refusal that applies to a pair, of 1, 3, 4, 5, 7 and 8. Rows of unequal length are refused as a ring without hues
 // is. No ring that is taken needs more room than 720, so of the second row it is the entries alone that are left to be checked.
+// k and step are kept apart: it is this call that refuses each.
 fn check(
     a: &[f32],
     b: &[f32],
@@ -171,6 +172,7 @@ fn best(a: &[f32], b: &[f32], k: usize, step: usize, floor: f32, work: &mut [u16
 // The best chroma from a floor up at which k hues, at least `step` apart all round, have an entry of at least it in both rows, by
 // 30 halvings; with its hues comes their smallest gap round the ring. The work buffer's content is left free where the call is
 // accepted, and does not matter.
+// k and step are kept apart: it is this call that refuses each.
 pub fn best_for_levels(
     a: &[f32],
     b: &[f32],
@@ -201,6 +203,7 @@ pub fn largest(row: &[f32]) -> f32
 
 // The best chroma of one row, as of two: from a floor up, for k hues at least `step` apart all round, by 30 halvings. The work buffer's
 // content is left free where the call is accepted, and does not matter.
+// k and step are kept apart: it is this call that refuses each.
 pub fn best_for_row(
     row: &[f32],
     k: usize,

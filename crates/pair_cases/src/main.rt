@@ -9,7 +9,7 @@ use case_lines::entries::Row;
 use cases::Line;
 
 // Takes a line, which is answered if it is a case.
-fn take_line(rt: &impl Print, line: &Line, rows: &mut [Row; 2]) -> Option<()> {
+fn take_line(rt: &impl Print, line: &Line, rows: &mut [Row<800>; 2]) -> Option<()> {
     match (line.operation(), line.words()) {
         // best k step floor room = number found chroma tightest h .. hi lo: `best_for_levels` with a work buffer of this length: the
         // number of its refusal or 0, whether something is found, the chroma or 0, the tightest gap and sixteen hues, and after a

@@ -43,6 +43,7 @@ pub struct Validation {
 }
 
 // What back-off ends with.
+// Three endings, so neither an `Option` nor a `Result`.
 #[derive(Clone, Copy)]
 pub enum BackOff {
     // the first chroma without a finding, and its colours
@@ -98,6 +99,7 @@ fn colors_of(design: Design, chroma: f32, directions: &Directions<'_>) -> [Srgb8
 
 // Derives a palette: dark hues, then light ones, and zeros after the 2k; each colour clipped to the gamut of sRGB, so that it may have
 // less chroma than asked. Refused by 1, 3, 9, 11 or 12.
+// Kept as two slices: it is this call that refuses them.
 pub fn derive(design: Design, chroma: f32, cos: &[f32], sin: &[f32]) -> Result<[Srgb8; 32], Refusal>
     ensures { said result ≡ derivation_says design chroma cos.now sin.now }
 {
@@ -183,6 +185,7 @@ fn first_finding(k: usize, m: Metrics) -> Option<Finding>
 }
 
 // Validates a palette of 2k colours; `count` says how many of the 32 there are. Refused by 1, 9 or 13.
+// Kept as two slices: it is this call that refuses them.
 #[tactic(auto, unfolding(crate::specs::Validation::validation_says, crate::specs::Validation::judged))]
 pub fn validate(
     k: usize,
@@ -234,6 +237,7 @@ fn lower_from(design: Design, chroma: f32, directions: &Directions<'_>) -> BackO
 
 // The first chroma from the one asked for down, in steps of 0.05, at which the palette of this one design has no finding, as sRGB
 // shows it. It is no limit: another design may pass at a greater chroma. Refused by 1, 3, 9, 11 or 12.
+// Kept as two slices: it is this call that refuses them.
 pub fn back_off(design: Design, chroma: f32, cos: &[f32], sin: &[f32]) -> Result<BackOff, Refusal>
     ensures { (back_off_said result ≡ back_off_says design chroma cos.now sin.now)
         × (colors_said result ≡ colors_after design cos.now sin.now (back_off_says design chroma cos.now sin.now)) }

@@ -12,6 +12,7 @@ use gamut::Gamut;
 use limits::{Directions, Refusal};
 
 // What a palette is derived from, but for its chroma.
+// Sixteen hues and a count, as document 01 hands them out.
 #[derive(Clone, Copy)]
 pub struct Design {
     // how many hues
@@ -32,6 +33,7 @@ fn takes_hues(k: usize, hues: [u16; 16]) -> bool
 }
 
 // The directions, or the first refusal of 1, 3, 9, 11 and 12.
+// Kept as two slices: it is this call that refuses them.
 #[tactic(auto, using(crate::proofs::Hues::all_taken), unfolding(crate::specs::Designs::design_checked, crate::specs::Designs::levels_taken))]
 pub fn check_design<'a>(
     design: Design,

@@ -11,17 +11,17 @@ use case_lines::entries::Row;
 use cases::Line;
 
 // Takes a line, which is answered if it is a case.
-fn take_line(rt: &impl Print, line: &Line, ring: &mut Row) -> Option<()> {
+fn take_line(rt: &impl Print, line: &Line, ring: &mut Row<800>) -> Option<()> {
     let answer = match (line.operation(), line.words()) {
         // ring n e ..: the ring has n entries, the first of which are these; the others are as they were
         (b"ring", [n, words @ ..]) if words.len() <= *n as usize => {
             ring.set_length(*n as usize)?;
-            return entries::put(ring.entries_mut(), 0, words);
+            return entries::try_put(ring.entries_mut(), 0, words);
         }
 
         // more i e ..: the ring's entries from i on are these
         (b"more", [i, words @ ..]) if !words.is_empty() => {
-            return entries::put(ring.entries_mut(), *i as usize, words);
+            return entries::try_put(ring.entries_mut(), *i as usize, words);
         }
 
         // step k = number step: `step_for`, with the number of its refusal and 0, or 0 and the step

@@ -36,6 +36,7 @@ pub fn step_for(k: usize) -> Result<usize, Refusal>
 }
 
 // The first refusal that applies to a placement, of 1, 3, 4, 5, 7 and 8.
+// k and step are kept apart: it is this call that refuses each.
 #[tactic(auto, unfolding(placement_rules::specs::Placing::checked, placement_rules::specs::Placing::work_needed))]
 pub fn check(m: &[f32], c: f32, k: usize, step: usize, room: usize) -> Result<(), Refusal>
     ensures { said result ≡ checked k step c m.now room (value tt) }

@@ -16,6 +16,7 @@ fn take_piece(
     out: &mut [u8; 65536],
 ) -> io::Result<()> {
     let mut rest = piece;
+    // A `while`: what is left is cut by what a call took.
     while !rest.is_empty() {
         let progress = ring_lines::answer_piece(rest, buffer, *held, out);
         rt.write_all(&out[..progress.written])?;

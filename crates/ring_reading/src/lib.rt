@@ -9,6 +9,7 @@ ghost use Rattle.ring_reading.specs.Reads.{no_row, LineRead};
 ghost use Rattle.ring_reading.specs.Inner.{fields_from, Bytes, Finds, Heads, entries_of, with_entries};
 
 // What a line asks: a placement on the ring of the row's first `length` entries.
+// An array and a count, as there is no heap here.
 #[derive(Clone, Copy)]
 pub struct Asked {
     pub length: usize,

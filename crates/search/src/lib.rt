@@ -58,6 +58,7 @@ fn beats(chroma: f32, best: Best) -> bool
 }
 
 // The best of one pair of levels, from the job's floor.
+// The two indices are kept apart, as document 01 names them in `Best::Found`.
 fn best_of(
     table: &[f32],
     work: &mut [u16],
