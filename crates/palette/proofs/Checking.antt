@@ -3,6 +3,7 @@ use mathlib.Core.Path.{◌≡◌, sym, ap, ◌∙◌}
 use mathlib.Core.Bool.{true}
 use mathlib.Core.List.{List, [], ◌∷◌}
 use lib.Ieee.{Float}
+use lib.ListN.{length}
 use Rattle.limits.specs.Answers.{Said, value, refused}
 use Rattle.limits.specs.Refusals.{number}
 use Rattle.limits.specs.Taken.{hue_count_taken, chroma_taken, directions_taken}
@@ -32,10 +33,10 @@ module _ (d : Design) (c : Float) (cs ss : List Float) (r : Result Directions Re
       (ap (λ (p : List Float × List Float). p.0) (sym e), ap (λ (p : List Float × List Float). p.1) (sym e))
 
   -- the design is ready, and the chroma taken
-  pub ready : (lent : Directions) → r ≡ Ok lent → Ready d × (chroma_taken c ≡ true)
-  ready lent f =
+  pub ready : (lent : Directions) → r ≡ Ok lent → length d.hues ≡ 16 → Ready d × (chroma_taken c ≡ true)
+  ready lent f sixteen =
       let t = (passed lent f).0 in
-      (record { hue_count = t.0; levels = t.1.1.1.0; hues = t.1.1.1.1.0 }, t.1.0)
+      (record { hue_count = t.0; levels = t.1.1.1.0; hues = t.1.1.1.1.0; sixteen = sixteen }, t.1.0)
 
   -- what a good call says is said
   pub accepted : {A : Type 0} (x : Said A) (lent : Directions) → r ≡ Ok lent → design_checked d c cs ss x ≡ x

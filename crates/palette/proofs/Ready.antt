@@ -1,7 +1,8 @@
--- What a design that is ready has: few hues, levels of the table, and hues among the directions. Assumes nothing.
+-- What a design that is ready has: few hues, no more than its array holds, levels of the table, and hues among the directions. Assumes nothing.
 use Prim.Native.Nat.{ℕ, ◌≤◌, ◌<◌}
+use native.Mathlib.Omega.{arith}
 use lib.Dec.{leb}
-use lib.ListN.{get_or}
+use lib.ListN.{length, get_or}
 use borrow.Author.Tests.{leb-true}
 use Rattle.limits.proofs.HueCount.{both, hue_count}
 use Rattle.palette_checks.specs.declared.Design.{Design}
@@ -12,6 +13,9 @@ use Rattle.palette_checks.proofs.Hues.{small}
 module _ {d : Design} (r : Ready d) where
   pub few_hues : d.k ≤ 16
   few_hues = (hue_count d.k r.hue_count).1
+
+  pub within : d.k ≤ length d.hues
+  within = let f = few_hues in let s = r.sixteen in omega arith
 
   pub levels_in_range : (d.dark ≤ 168) × (d.light ≤ 168)
   unfolding levels_taken

@@ -7,11 +7,12 @@ use Rattle.palette_checks.specs.declared.Design.{Design}
 use Rattle.palette_checks.specs.Designs.{levels_taken, hues_taken}
 use Rattle.palette.specs.Derivation.{black, colors_of}
 
--- a design that is taken
+-- a design that is taken, whose array of hues has sixteen places
 pub record Ready (d : Design) : Type 0 where
   pub hue_count : hue_count_taken d.k ≡ true
   pub levels : levels_taken d ≡ true
   pub hues : hues_taken d.k d.hues ≡ true
+  pub sixteen : length d.hues ≡ 16
 
 -- the first n numbers are what f gives of the first n colours
 abbrev pub Filled : (Srgb8 → Float) → ℕ → List Srgb8 → List Float → Type 0

@@ -74,27 +74,63 @@ fn color_of(level: usize, hue: u16, chroma: f32, directions: &Directions<'_>) ->
     clipping::lch_to_srgb8_gamut_clipped(l, chroma, directions.cos[j], directions.sin[j]).color
 }
 
-// The colour in place i of the 2k: the first k are dark.
-fn color_at(design: Design, chroma: f32, directions: &Directions<'_>, i: usize) -> Srgb8
-    requires { Ready design × Placed design i }
-    ensures { result ≡ color_at design chroma directions.now.cos.now directions.now.sin.now i }
-{
-    if i < design.k {
-        return color_of(design.dark, design.hues[i], chroma, directions);
-    }
-    color_of(design.light, design.hues[i - design.k], chroma, directions)
+// A design that is taken, with the directions that its colours are shown in.
+#[derive(Clone, Copy)]
+struct Shown<'a> {
+    design: Design,
+    directions: Directions<'a>,
+    ghost ready: { Ready design },
 }
 
-// The colours of a design at a chroma.
-fn colors_of(design: Design, chroma: f32, directions: &Directions<'_>) -> [Srgb8; 32]
-    requires { Ready design }
-    ensures { result ≡ colors_of design chroma directions.now.cos.now directions.now.sin.now }
-{
-    let mut colors = [Srgb8 { r: 0, g: 0, b: 0 }; 32];
-    for i in 0..2 * design.k {
-        colors[i] = color_at(design, chroma, directions, i);
+impl Shown<'_> {
+    // The colour in place i of the 2k: the first k are dark.
+    fn color_at(&self, chroma: f32, i: usize) -> Srgb8
+        requires { Placed self.now.design i }
+        ensures { result ≡ color_at self.now.design chroma self.now.directions.cos.now self.now.directions.sin.now i }
+    {
+        let Design {
+            k,
+            dark,
+            light,
+            hues,
+        } = self.design;
+        if i < k {
+            return color_of(dark, hues[i], chroma, &self.directions);
+        }
+        color_of(light, hues[i - k], chroma, &self.directions)
     }
-    colors
+
+    // The colours of the design at a chroma.
+    fn colors_of(&self, chroma: f32) -> [Srgb8; 32]
+        ensures { result ≡ colors_of self.now.design chroma self.now.directions.cos.now self.now.directions.sin.now }
+    {
+        let mut colors = [Srgb8 { r: 0, g: 0, b: 0 }; 32];
+        for i in 0..2 * self.design.k {
+            colors[i] = self.color_at(chroma, i);
+        }
+        colors
+    }
+
+    // Lowers a chroma by 0.05 while it is tried, until its palette has no finding.
+    fn lower_from(&self, chroma: f32) -> BackOff
+        requires { chroma_taken chroma ≡ true }
+        ensures { (ending_of result ≡ end_of (judge_at self.now.design self.now.directions.cos.now self.now.directions.sin.now) chroma)
+            × (colors_in result ≡ colors_after self.now.design self.now.directions.cos.now self.now.directions.sin.now (value (end_of (judge_at self.now.design self.now.directions.cos.now self.now.directions.sin.now) chroma))) }
+    {
+        let k = self.design.k;
+        let mut c = chroma;
+        let mut last = BackOff::Untried;
+        // no count says how often: the chroma is lowered as long as it is tried
+        while tried(c) {
+            let colors = self.colors_of(c);
+            match first_finding(k, measure(k, colors, &self.directions)) {
+                None => return BackOff::Passed { chroma: c, colors },
+                Some(found) => last = BackOff::Found(found),
+            }
+            c -= 0.05;
+        }
+        last
+    }
 }
 
 // Derives a palette: dark hues, then light ones, and zeros after the 2k; each colour clipped to the gamut of sRGB, so that it may have
@@ -104,7 +140,8 @@ pub fn derive(design: Design, chroma: f32, cos: &[f32], sin: &[f32]) -> Result<[
     ensures { said result ≡ derivation_says design chroma cos.now sin.now }
 {
     let directions = palette_checks::check_design(design, chroma, cos, sin)?;
-    Ok(colors_of(design, chroma, &directions))
+    let shown = Shown { design, directions };
+    Ok(shown.colors_of(chroma))
 }
 
 // The hues of the first n colours.
@@ -215,26 +252,6 @@ fn tried(c: f32) -> bool
     35.0 <= c
 }
 
-// Lowers a chroma by 0.05 while it is tried, until its palette has no finding.
-fn lower_from(design: Design, chroma: f32, directions: &Directions<'_>) -> BackOff
-    requires { Ready design × (chroma_taken chroma ≡ true) }
-    ensures { (ending_of result ≡ end_of (judge_at design directions.now.cos.now directions.now.sin.now) chroma)
-        × (colors_in result ≡ colors_after design directions.now.cos.now directions.now.sin.now (value (end_of (judge_at design directions.now.cos.now directions.now.sin.now) chroma))) }
-{
-    let mut c = chroma;
-    let mut last = BackOff::Untried;
-    // no count says how often: the chroma is lowered as long as it is tried
-    while tried(c) {
-        let colors = colors_of(design, c, directions);
-        match first_finding(design.k, measure(design.k, colors, directions)) {
-            None => return BackOff::Passed { chroma: c, colors },
-            Some(found) => last = BackOff::Found(found),
-        }
-        c -= 0.05;
-    }
-    last
-}
-
 // The first chroma from the one asked for down, in steps of 0.05, at which the palette of this one design has no finding, as sRGB
 // shows it. It is no limit: another design may pass at a greater chroma. Refused by 1, 3, 9, 11 or 12.
 // Kept as two slices: it is this call that refuses them.
@@ -243,5 +260,6 @@ pub fn back_off(design: Design, chroma: f32, cos: &[f32], sin: &[f32]) -> Result
         × (colors_said result ≡ colors_after design cos.now sin.now (back_off_says design chroma cos.now sin.now)) }
 {
     let directions = palette_checks::check_design(design, chroma, cos, sin)?;
-    Ok(lower_from(design, chroma, &directions))
+    let shown = Shown { design, directions };
+    Ok(shown.lower_from(chroma))
 }

@@ -1,5 +1,6 @@
 -- `palette::back_off` meets its contract: the check says what is refused, and the rest is lowered from the chroma asked for. Assumes nothing.
 use mathlib.Core.Path.{sym, ap, ◌∙◌}
+use native.Mathlib.Omega.{arith}
 use Rattle.std.proofs.lemmas.Result.{err_from_is_err_and}
 use Rattle.limits.specs.Answers.{value}
 use Rattle.palette.specs.BackOff.{end_of, judge_at, back_off_says, colors_after}
@@ -17,10 +18,15 @@ returns-in_err-directions c =
     let p = err_from_is_err_and c.from_residual.result c.from_residual.ensures.1 in
     rw (p.1, p.2) (sym e, sym (ap (colors_after d cs ss) e))
 
+pub invariant_of-shown : goal.invariant_of-shown
+invariant_of-shown c =
+    let a = c.args in
+    record { ready = (ready a.design a.chroma a.cos.now a.sin.now c.check_design.result c.check_design.ensures c.in_ok-directions.directions c.in_ok-directions.was (omega arith)).0 }
+
 pub lower_from-requires : goal.lower_from-requires
 lower_from-requires c =
     let a = c.args in
-    ready a.design a.chroma a.cos.now a.sin.now c.check_design.result c.check_design.ensures c.in_ok-directions.directions c.in_ok-directions.was
+    (ready a.design a.chroma a.cos.now a.sin.now c.check_design.result c.check_design.ensures c.in_ok-directions.directions c.in_ok-directions.was (omega arith)).1
 
 pub returns : goal.returns
 unfolding back_off_says

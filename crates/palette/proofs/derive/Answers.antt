@@ -1,5 +1,6 @@
 -- `palette::derive` meets its contract: the check says what is refused, and the rest are the colours of the design. Assumes nothing.
 use mathlib.Core.Path.{sym, ap, ◌∙◌}
+use native.Mathlib.Omega.{arith}
 use Rattle.std.proofs.lemmas.Result.{err_from_is_err_and}
 use Rattle.limits.specs.Answers.{value}
 use Rattle.palette.specs.Derivation.{colors_of, derivation_says}
@@ -13,10 +14,10 @@ returns-in_err-directions c =
     let p = err_from_is_err_and c.from_residual.result c.from_residual.ensures.1 in
     rw (p.1, p.2) (sym (rejected a.design a.chroma a.cos.now a.sin.now c.check_design.result c.check_design.ensures (value (colors_of a.design a.chroma a.cos.now a.sin.now)) _ c.in_err-directions.was))
 
-pub colors_of-requires : goal.colors_of-requires
-colors_of-requires c =
+pub invariant_of-shown : goal.invariant_of-shown
+invariant_of-shown c =
     let a = c.args in
-    (ready a.design a.chroma a.cos.now a.sin.now c.check_design.result c.check_design.ensures c.in_ok-directions.directions c.in_ok-directions.was).0
+    record { ready = (ready a.design a.chroma a.cos.now a.sin.now c.check_design.result c.check_design.ensures c.in_ok-directions.directions c.in_ok-directions.was (omega arith)).0 }
 
 pub returns : goal.returns
 unfolding derivation_says
