@@ -54,6 +54,7 @@ impl Lent {
 }
 
 // The place of a component among the cosines or the sines.
+// Two places and no flag: neither stands for none.
 #[derive(Clone, Copy)]
 enum Place {
     Cosine(usize),

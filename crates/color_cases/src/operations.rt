@@ -8,10 +8,10 @@ use patterns::float_of;
 // What comes out of a case.
 pub fn came_out(operation: &[u8], words: &[u32]) -> Option<Answer> {
     let answer = match (operation, words) {
-        // sqrt x = number r: the square float_or_refusal, or the number of its refusal and 0
+        // sqrt x = number r: the square root, or the number of its refusal and 0
         (b"sqrt", [x]) => float_or_refusal(roots::sqrt(float_of(*x))),
 
-        // cbrt x = number r: the cube float_or_refusal, likewise
+        // cbrt x = number r: the cube root, likewise
         (b"cbrt", [x]) => float_or_refusal(roots::cbrt(float_of(*x))),
 
         // labf t = r: `lab_f`

@@ -122,6 +122,7 @@ pub extern "C" fn tengcuvo_search(
                     NO_CHROMA
                 }
                 Best::Found(reached, dark, light) => {
+                    // copied first: an array is not moved out of what is lent
                     let placed = job.hues;
                     *hues = placed;
                     *levels = [dark, light];
@@ -152,6 +153,7 @@ pub extern "C" fn tengcuvo_orientation(
 {
     match orientation::best_at_orientation(gap, table, hue) {
         Ok(Some(best)) => {
+            // copied first: an array is not moved out of what is lent
             let placed = best.hues;
             *hues = placed;
             *levels = [best.dark, best.light];
@@ -225,6 +227,7 @@ pub extern "C" fn tengcuvo_page(
         page_hands (page_says (job_of k gap levels position (best_of found chroma dark light) hues.now tightest) (length page.old))
         (job_of k gap levels position (best_of found chroma dark light) hues.now tightest) page.old written.old }
 {
+    // copied first: an array is not moved out of what is lent
     let indices = *hues;
     let job = Job {
         settings: Settings { k, gap },
@@ -266,6 +269,7 @@ pub extern "C" fn tengcuvo_ceiling(
         × (ceiling.new ≡
         ceiling_after (outlook_says (job_of k gap levels position (best_of found chroma dark light) hues.now tightest) table.now) ceiling.old) }
 {
+    // copied first: an array is not moved out of what is lent
     let indices = *hues;
     let job = Job {
         settings: Settings { k, gap },
@@ -313,6 +317,7 @@ pub extern "C" fn tengcuvo_back_off(
         back_off_hands (design_of k dark light hues.now) cos.now sin.now
         (back_off_says (design_of k dark light hues.now) chroma cos.now sin.now) colors.old passed.old }
 {
+    // copied first: an array is not moved out of what is lent
     let indices = *hues;
     let design = Design {
         k,

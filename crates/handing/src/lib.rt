@@ -60,6 +60,7 @@ pub fn place(
 {
     match placement::feasible(m, c, k, step, work) {
         Ok(Some(found)) => {
+            // copied first: an array is not moved out of what is lent
             let placed = found.hues;
             *hues = placed;
             *tightest = [found.tightest];
@@ -87,6 +88,7 @@ pub fn hand(
 {
     match chosen {
         Ok(Some(best)) => {
+            // copied first: an array is not moved out of what is lent
             let placed = best.hues;
             *hues = placed;
             *chroma = [best.chroma];

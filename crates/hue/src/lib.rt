@@ -78,9 +78,9 @@ pub fn srgb8_hues(
 ) -> Result<[f32; 32], Refusal>
     ensures { said result ≡ hues_says cos.now sin.now n colors }
 {
-    let directions = Directions::new(cos, sin)?;
+    let lent = Directions::new(cos, sin)?;
     if n > 32 {
         return Err(Refusal::ColorCount);
     }
-    Ok(hues_of(n, colors, &directions))
+    Ok(hues_of(n, colors, &lent))
 }

@@ -7,6 +7,8 @@ ghost use Rattle.ring_reading.specs.Numbers.{is_digit};
 ghost use Rattle.lamp_input.specs.Ask.{ask_of, gap_of, goes_on, numbers_of, count_from, gap_from, whole_from, decimals_from};
 ghost use Rattle.lamp_input.specs.Inner.{ask_said, rest, Within};
 
+use ring_reading::is_digit;
+
 // What a line asks: so many hues, and this gap.
 #[derive(Clone, Copy)]
 pub struct Ask {
@@ -30,15 +32,7 @@ enum Part {
     Decimals(u32, u32, u32),
 }
 
-// Whether a byte is a digit.
-#[tactic(auto, unfolding(ring_reading::specs::Numbers::is_digit))]
-fn is_digit(byte: u8) -> bool
-    ensures { result ≡ is_digit byte }
-{
-    byte.is_ascii_digit()
-}
-
-// What a digit stands for.
+// What a digit stands for, as in `ring_reading` but wider: over both types it would need a trait with the sum in it.
 #[tactic(auto, using(ring_reading::proofs::Numbers::digit_range))]
 fn value(byte: u8) -> u32
     requires { is_digit byte ≡ true }

@@ -65,8 +65,8 @@ fn check(table: &[f32], levels: &[usize], room: usize) -> Result<(), Refusal>
     Ok(())
 }
 
-// Lowers each number of a row to the entry of another where that is less, by one comparison: `f32::min` leaves open which of two zeros it
-// gives.
+// Lowers each number of a row to the entry of another where that is less, by a comparison made here, so that the
+// compiler takes several entries at once; `f32::min` leaves open which of two zeros it gives.
 fn lower(by: &[f32], row: &mut [f32])
     requires { Long by.now row.old }
     ensures { Lowered by.now row.old row.new }

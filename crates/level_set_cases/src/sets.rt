@@ -43,6 +43,7 @@ impl Levels {
 }
 
 // What came out of a set; the work buffer is as it was left.
+// The same stands in `pair_cases`: no crate of test code over `pair_rules` is under both.
 fn came_out(chosen: Result<Option<Chosen>, Refusal>, work: &[u16]) -> Answer {
     let number = Answer::after(&chosen);
     let answer = match chosen {

@@ -157,6 +157,7 @@ fn takes_components(components: &[f32]) -> bool
 }
 
 // Whether two slices are taken as the cosines and the sines of the 720 directions.
+// Kept as two slices: `Directions` is what is made of them where they are taken.
 #[tactic(auto, unfolding(crate::specs::Taken::directions_taken))]
 pub fn takes_directions(cos: &[f32], sin: &[f32]) -> bool
     ensures { result ≡ directions_taken cos.now sin.now }

@@ -64,6 +64,7 @@ fn value_at(table: &[f32], dark: usize, light: usize, hue: usize) -> f32
 
 // The best so far after the partners of the fixed hue on two levels, in their order. Where what the fixed hue itself has would not
 // replace it, no partner does.
+// The two indices are kept apart, as document 01 names them in `Best::Found`.
 fn over_partners(
     table: &[f32],
     hue: usize,

@@ -99,6 +99,7 @@ fn put_levels(page: &mut [u8], k: usize, dark: usize, light: usize) -> usize
 }
 
 // Puts the page of k hues at a chroma on two levels, and gives its length where there is room for it.
+// The two indices are kept apart, as document 01 names them in `Best::Found`.
 fn put_found(page: &mut [u8], k: usize, c: f32, dark: usize, light: usize, hues: [u16; 16]) -> usize
     requires { (k ≤ 16) × InRange c }
     ensures { PutIn page.old 0 (lines_of (rows_with k (Found c dark light) hues)) page.new result }

@@ -43,6 +43,7 @@ fn lesser_row(a: &[f32], b: &[f32], row: &mut [f32]) -> f32
     for (i, lesser) in row.iter_mut().enumerate() {
         let x = a[i];
         let y = b[i];
+        // compared here, so that the compiler takes several entries at once
         let value = if y < x { y } else { x };
         *lesser = value;
         if most < value {
@@ -140,6 +141,7 @@ impl Climb<'_> {
     }
 
     // The best from the floor.
+    // k and step are kept apart, as the two calls that refuse them hand them on.
     fn best(self, work: &mut [u16]) -> Option<Chosen>
         requires { checked self.k self.step self.floor self.row.now (length work.old) pass ≡ pass }
         ensures { IsBest self.entry.k self.entry.step self.entry.floor self.entry.row.now result }

@@ -22,6 +22,7 @@ pub struct Progress {
 pub fn keep(buffer: &mut [u8; 4096], held: usize, byte: u8) -> usize
     ensures { Held buffer.old held byte buffer.new result }
 {
+    // 4,097 stands for every longer line: that is what the promise `kept_in` says of it
     let next = text::put_byte(buffer, held, byte);
     if held < 4096 { next } else { 4097 }
 }

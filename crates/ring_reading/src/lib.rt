@@ -46,7 +46,7 @@ fn byte_at(line: &[u8], at: usize) -> u8
 
 // Whether a byte is a digit.
 #[tactic(auto, unfolding(crate::specs::Numbers::is_digit))]
-fn is_digit(byte: u8) -> bool
+pub fn is_digit(byte: u8) -> bool
     ensures { result ≡ is_digit byte }
 {
     byte.is_ascii_digit()

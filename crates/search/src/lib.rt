@@ -85,6 +85,7 @@ fn best_of(
 }
 
 // Goes through one pair of levels.
+// The two indices are kept apart, as document 01 names them in `Best::Found`.
 fn go_through(
     table: &[f32],
     work: &mut [u16],

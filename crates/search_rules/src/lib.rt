@@ -22,6 +22,7 @@ pub enum Best {
 }
 
 // A search, as it stands after some of its steps.
+// Sixteen hues and a count in its settings: document 01 hands them out so.
 #[derive(Clone, Copy)]
 pub struct Job {
     pub settings: Settings,

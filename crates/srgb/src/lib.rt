@@ -94,6 +94,7 @@ pub fn srgb8_to_linear(c: Srgb8) -> Linear
 }
 
 // Linear light as an 8-bit sRGB colour. What is out of range goes to the nearest code, NaN to 0.
+// Kept beside `srgb8_to_linear`: the types of both and what is called of each channel differ.
 pub fn linear_to_srgb8(c: Linear) -> Srgb8
     ensures { result ≡ linear_to_srgb8 c }
 {
