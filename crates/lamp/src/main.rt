@@ -92,7 +92,9 @@ fn search_in(rt: &impl Print, table: &[f32], asked: &Asked) {
     }
 }
 
-// Fills the table by the directions, searches it, and writes what is found.
+// Fills the table by the directions, searches it, and writes what is found. Not part of its caller's code: the table is not on the stack
+// while the input is read.
+#[inline(never)]
 fn run(rt: &impl Print, asked: &Asked) {
     let mut entries = [0.0; table::ENTRIES];
     match table::fill(&mut entries, asked) {
