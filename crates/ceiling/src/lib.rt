@@ -84,7 +84,7 @@ fn with_pair(
     if !search_checks::qualifies(settings, dark as u16, light as u16) {
         return so;
     }
-    Some(raised(pair_rules::lesser(a, b), so))
+    Some(raised(comparing::lesser(a, b), so))
 }
 
 // The ceiling of a job that is not broken, over a table of its levels.

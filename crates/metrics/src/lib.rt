@@ -9,7 +9,7 @@ ghost use Rattle.std.specs.Float.Ieee.{sub};
 ghost use Rattle.pair_rules.specs.Rows.{lesser, greater};
 ghost use Rattle.metrics.specs.Metrics.{highest, lowest, greatest, least, spread_in, absolute, apart, least_from, least_apart};
 
-use pair_rules::{greater, lesser};
+use comparing::{greater, lesser};
 
 // What is measured of a palette.
 #[derive(Clone, Copy)]

@@ -10,10 +10,10 @@ ghost use Rattle.pair_rules.specs.Rows.{value_at};
 ghost use Rattle.orientation_rules.specs.Orientation.{replaces, over_partners, best_fixed, orientation_checked, orientation_says, Gives};
 ghost use Rattle.orientation.specs.Inner.{best_of, There, Paired, Taken, Lit, Passed, Handed};
 
+use comparing::lesser;
 use gamut::Gamut;
 use limits::Refusal;
 pub use orientation_rules::Oriented;
-use pair_rules::lesser;
 
 // The first refusal of a call, of 2, 6, 7 over the whole table and 12.
 #[tactic(auto, unfolding(orientation_rules::specs::Orientation::orientation_checked))]
