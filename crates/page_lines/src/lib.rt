@@ -13,7 +13,8 @@ fn numbered(line: [u8; 41], n: usize) -> [u8; 41]
 {
     let mut to = line;
     let mut rest = n;
-    for at in (20..40).rev() {
+    // a number has twenty digits at most; over all places the loop is too long to be unrolled, which was slower
+    for at in (0..40).rev() {
         to[at] = b'0' + (rest % 10) as u8;
         rest /= 10;
         if rest == 0 {

@@ -19,4 +19,4 @@ pub returns-then-rest-eq0 : goal.returns-then-rest-eq0
 returns-then-rest-eq0 c = writing_ends _ _ (long c.before.before.before) c.loop-at.invariant _ c.if-rest-eq0.true refl
 
 pub returns-after-loop-at : goal.returns-after-loop-at
-returns-after-loop-at c = absurd (writing_left _ _ (long c.before.before) c.loop-at.invariant c.loop-at-test.false)
+returns-after-loop-at c = let t = c.loop-at-test.false in absurd (writing_left _ _ (long c.before.before) c.loop-at.invariant (omega arith))
