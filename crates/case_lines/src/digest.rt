@@ -7,13 +7,15 @@ pub const START: u64 = 0xcbf2_9ce4_8422_2325;
 const PRIME: u64 = 0x100_0000_01b3;
 
 // With one more byte.
-pub fn with_byte(digest: u64, byte: u8) -> u64 {
+pub fn with_byte(digest: u64, byte: u32) -> u64 {
     (digest ^ u64::from(byte)).wrapping_mul(PRIME)
 }
 
 // With more bytes.
 pub fn with_bytes(digest: u64, bytes: &[u8]) -> u64 {
-    bytes.iter().fold(digest, |sum, byte| with_byte(sum, *byte))
+    bytes
+        .iter()
+        .fold(digest, |sum, byte| with_byte(sum, u32::from(*byte)))
 }
 
 // With two more bytes, the low one of the number first.

@@ -34,7 +34,7 @@ fn row_at(table: &mut [f32], place: usize) -> Option<&mut [f32]> {
 }
 
 // The table that the lines so far have set.
-#[derive(Drop)]
+#[derive(Clone, Copy)]
 pub struct Table {
     directions: Directions,
     rows: Row<STORED>,

@@ -184,5 +184,6 @@ pub fn feasible(
 {
     placement_checks::check(m, c, k, step, work.len())?;
     let ring = Ring { m, c, k, step };
-    Ok(ring.place(work))
+    let found = ring.place(work);
+    Ok(found)
 }

@@ -18,7 +18,7 @@ fn with_place(sum: u64, found: Result<Option<Placement>, Refusal>) -> u64 {
     match found {
         Ok(Some(placed)) => with_hues(digest::with_byte(sum, 255), &placed.hues, placed.tightest),
         Ok(None) => with_hues(digest::with_byte(sum, 0), &[0; 16], 0),
-        Err(why) => with_hues(digest::with_byte(sum, why.number()), &[0; 16], 0),
+        Err(why) => with_hues(digest::with_byte(sum, u32::from(why.number())), &[0; 16], 0),
     }
 }
 

@@ -44,11 +44,11 @@ pub record SoFar (whole : Option (List Float)) (count i : ℕ) (row : List Float
   pub splits : whole ≡ after (take i row) (entries_of (count - i) fields)
 
 -- nothing is read yet
-pub read_begins : (count : ℕ) (row : List Float) (fields : List (List ℕ)) → count ≤ 999 → row ≡ no_row → SoFar (entries_of count fields) count 0 (take count row) fields
+pub read_begins : (count places : ℕ) (row : List Float) (fields : List (List ℕ)) → count ≤ 999 → places ≡ count → row ≡ no_row → SoFar (entries_of count fields) count 0 (take places row) fields
 unfolding no_row
-read_begins count row fields few e =
+read_begins count places row fields few same e =
     let l : length row ≡ 999 = ap length e ∙ length-replicate 999 (f32_of 0) in
-    record { long = length-take-le count row (omega arith); splits = rw sub-zero (sym (after_none (entries_of count fields))) }
+    record { long = length-take-le places row (omega arith) ∙ same; splits = rw sub-zero (sym (after_none (entries_of count fields))) }
 
 module _ {whole : Option (List Float)} {count i : ℕ} {row : List Float} {fields : List (List ℕ)} (s : SoFar whole count i row fields) where
   -- a field that is no number, or none where one must be

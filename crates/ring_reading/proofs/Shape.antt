@@ -142,13 +142,13 @@ module _ (line : List ℕ) (short : length line ≤ 4096) where
 pub wrong_entries : (k step c : ℕ) {found : Option (List Float)} → found ≡ none → LineRead (with_entries k step c found) None
 wrong_entries k step c e = rw e read_malformed
 
-pub well_formed : {n k step : ℕ} (c : ℕ) {found : Option (List Float)} (items : List Float) {zeros : List Float} → n ≤ 999 → length items ≡ n → zeros ≡ no_row → found ≡ some items
-    → LineRead (with_entries k step c found) (Some (record { length = n; k = k; step = step; c = f32_of c; row = items ++ drop n zeros }))
+pub well_formed : {n k step : ℕ} (c : ℕ) {found : Option (List Float)} (items : List Float) {zeros : List Float} {places : ℕ} → n ≤ 999 → places ≡ n → length items ≡ n → zeros ≡ no_row → found ≡ some items
+    → LineRead (with_entries k step c found) (Some (record { length = n; k = k; step = step; c = f32_of c; row = items ++ drop places zeros }))
 unfolding over
-well_formed {n} {k} {step} c items {zeros} few e z f =
+well_formed {n} {k} {step} c items {zeros} {places} few same e z f =
     rw f
     (record {
-      asking = ap (asks k step (f32_of c)) (take_at items (drop n zeros) n e);
-      holds = rw (z, ← e);
+      asking = ap (asks k step (f32_of c)) (take_at items (drop places zeros) n e);
+      holds = rw (z, same, ← e);
       few = few;
     })

@@ -45,7 +45,7 @@ fn stepped(count: u32, seed: u32, table: &[f32], work: &mut [u16], job: &mut Job
     for _ in 0..count {
         work_buffer::fill(work, seed);
         let outcome = search::step(table, work, job);
-        sum = case_jobs::digested(digest::with_byte(sum, number_of(&outcome)), job);
+        sum = case_jobs::digested(digest::with_byte(sum, u32::from(number_of(&outcome))), job);
         if outcome.is_err() {
             left = digest::with_pairs(left, work);
         }

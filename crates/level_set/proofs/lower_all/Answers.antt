@@ -3,12 +3,16 @@ use mathlib.Core.Path.{sym, ap, ◌∙◌, subst}
 use mathlib.Core.List.{List}
 use lib.Ieee.{Float}
 use lib.ListN.{length}
+use lib.Seq.{take_all}
+use native.Mathlib.Omega.{arith}
+use Rattle.std.specs.Slice.Iter.{iter_rest}
+use Rattle.std.specs.Iterator.Adapters.{rev_source}
 use Rattle.level_set.specs.Inner.{Lowered}
 use Rattle.level_set.proofs.Naming.{none_behind, next_long, next_behind, all_behind}
 use Rattle.level_set.proofs.lower_all.Goals as goal
 
 pub loop-level-init : goal.loop-level-init
-loop-level-init c = none_behind c.args.table.now c.args.levels.now _ c.args.row.now (cc) c.requires.1
+loop-level-init c = none_behind c.args.table.now c.args.levels.now _ c.args.row.now (ap iter_rest (ap rev_source c.into_iter-level-iterator.ensures.into_iter_gives ∙ c.rev-level-items.ensures.source) ∙ c.iter.ensures.rest ∙ grind (arith, take_all)) c.requires.1
 
 pub lower-requires : goal.lower-requires
 lower-requires c =

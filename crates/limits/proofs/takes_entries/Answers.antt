@@ -4,7 +4,7 @@ use Rattle.limits.proofs.Every.{joined, ended}
 use Rattle.limits.proofs.takes_entries.Goals as goal
 
 pub loop-x-preserved : goal.loop-x-preserved
-loop-x-preserved c = joined entry_taken _ c.loop-x.all _ _ c.loop-x-test.true c.takes_entry-all.ensures c.loop-x.invariant
+loop-x-preserved c = joined entry_taken _ c.loop-x.all _ _ c.loop-x-test.true (search) c.loop-x.invariant
 
 pub returns : goal.returns
 returns c = ended entry_taken _ _ _ c.loop-x-test.false c.loop-x.invariant

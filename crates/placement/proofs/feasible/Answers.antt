@@ -21,9 +21,9 @@ invariant_of-ring c =
     let a = c.args in
     record { asked = (asked a.k a.step a.c a.m.now (length a.work.now) (passed a.k a.step a.c a.m.now (length a.work.now) c.check.result c.in_ok-check.was c.check.ensures)).0 }
 
-pub place-requires : goal.place-requires
+pub place-found-requires : goal.place-found-requires
 unfolding work_needed
-place-requires c =
+place-found-requires c =
     let a = c.args in
     let room = (asked a.k a.step a.c a.m.now (length a.work.now) (passed a.k a.step a.c a.m.now (length a.work.now) c.check.result c.in_ok-check.was c.check.ensures)).1 in
     omega (arith, room)
@@ -32,7 +32,7 @@ pub returns-clause-gives : goal.returns-clause-gives
 returns-clause-gives c =
     let a = c.args in
     let e = placing a.k a.step a.c a.m.now (length a.work.now) c.check.result (c.in_ok-check.was) c.check.ensures in
-    subst (Gives (length a.m.now) a.k _) (sym e) (given c.place.ensures)
+    subst (Gives (length a.m.now) a.k _) (sym e) (given c.place-found.ensures)
 
 pub returns-clause-untouched : goal.returns-clause-untouched
 returns-clause-untouched c =

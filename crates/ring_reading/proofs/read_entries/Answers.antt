@@ -5,7 +5,7 @@ use Rattle.ring_reading.proofs.Shape.{wrong_entries, well_formed}
 use Rattle.ring_reading.proofs.read_entries.Goals as goal
 
 pub loop-entry-init : goal.loop-entry-init
-loop-entry-init c = read_begins _ _ _ c.requires c.no_row-row.ensures
+loop-entry-init c = read_begins _ _ _ _ c.requires (omega arith) c.no_row-row.ensures
 
 pub returns-in_err-field : goal.returns-in_err-field
 returns-in_err-field c =
@@ -34,4 +34,4 @@ returns c =
     let s = c.loop-entry.invariant in
     let l = s.long in
     let h = c.loop-entry-test.false in
-    well_formed _ _ c.requires s.long c.no_row-row.ensures (read_whole _ _ s (omega arith) c.if-at-line.false)
+    well_formed _ _ c.requires (omega arith) s.long c.no_row-row.ensures (read_whole _ _ s (omega arith) c.if-at-line.false)
