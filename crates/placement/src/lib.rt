@@ -172,6 +172,7 @@ impl Ring<'_> {
 // k hues at least `step` apart all round a ring, each with an entry of at least c: the first placement, with its smallest gap
 // round the ring, or none. The work buffer's content is left free where the call is accepted, and does not matter.
 // k and step are kept apart: it is this call that refuses each.
+#[tactic(auto, using(crate::proofs::Checking::handing, crate::proofs::Checking::leaving))]
 pub fn feasible(
     m: &[f32],
     c: f32,

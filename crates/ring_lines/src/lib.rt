@@ -28,7 +28,7 @@ pub fn keep(buffer: &mut [u8; 4096], held: usize, byte: u8) -> usize
 }
 
 // Writes the answer to the line that is held over the front of a text, and gives its length.
-#[tactic(auto, unfolding(crate::specs::Pieces::kept_in))]
+#[tactic(auto, unfolding(crate::specs::Pieces::kept_in), using(crate::proofs::Keeping::answer_short, crate::proofs::Keeping::answer_long))]
 pub fn answer_kept(buffer: &[u8; 4096], held: usize, text: &mut [u8; 64]) -> usize
     ensures { Laid text.old (answer_kept (kept_in buffer.now held)) text.new result }
 {

@@ -1,12 +1,10 @@
 -- `placement::feasible` meets its contract: the check says what is refused, and `place` the rest. Assumes nothing.
-use mathlib.Core.Path.{refl, sym, subst}
+use mathlib.Core.Path.{refl}
 use native.Mathlib.Omega.{arith}
 use lib.ListN.{length}
 use Rattle.std.proofs.lemmas.Result.{err_from_is_err_and}
-use Rattle.limits.proofs.Checks.{said_twice}
-use Rattle.placement_rules.specs.Placing.{work_needed, Gives}
-use Rattle.placement.proofs.Placing.{given}
-use Rattle.placement.proofs.Checking.{asked, passed, placing, refusing}
+use Rattle.placement_rules.specs.Placing.{work_needed}
+use Rattle.placement.proofs.Checking.{asked, passed, refusing}
 use Rattle.placement.proofs.feasible.Goals as goal
 
 pub returns-in_err-check-clause-gives : goal.returns-in_err-check-clause-gives
@@ -27,14 +25,3 @@ place-found-requires c =
     let a = c.args in
     let room = (asked a.k a.step a.c a.m.now (length a.work.now) (passed a.k a.step a.c a.m.now (length a.work.now) c.check.result c.in_ok-check.was c.check.ensures)).1 in
     omega (arith, room)
-
-pub returns-clause-gives : goal.returns-clause-gives
-returns-clause-gives c =
-    let a = c.args in
-    let e = placing a.k a.step a.c a.m.now (length a.work.now) c.check.result (c.in_ok-check.was) c.check.ensures in
-    subst (Gives (length a.m.now) a.k _) (sym e) (given c.place-found.ensures)
-
-pub returns-clause-untouched : goal.returns-clause-untouched
-returns-clause-untouched c =
-    let a = c.args in
-    λ w again. said_twice (placing a.k a.step a.c a.m.now (length a.work.now) c.check.result (c.in_ok-check.was) c.check.ensures) again
